@@ -1,0 +1,4 @@
+pub mod Given
+mod Refusals
+pub mod StandardFacts
+pub mod Taken

@@ -1,0 +1,3 @@
+/// The call failed, and its object counted it.
+#[derive(Clone, Copy, Debug, PartialEq, Eq)]
+pub struct Failed;
