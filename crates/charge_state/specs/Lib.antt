@@ -1,0 +1,5 @@
+pub mod Order
+pub mod Tests
+pub mod Text
+pub use Rattle.charge_model.specs.Charges
+pub use Rattle.charge_model.specs.Rules
