@@ -1,0 +1,3 @@
+pub use Rattle.charge_model.specs.Problem
+pub mod Made
+pub mod Seen
