@@ -1,0 +1,12 @@
+pub mod LineLemmas
+pub mod KindLemmas
+pub mod GridLemmas
+pub mod Sound
+pub mod PlaceLemmas
+pub mod CountLemmas
+pub mod RangeLemmas
+pub mod FrontLemmas
+pub mod FillLemmas
+pub mod ProblemLemmas
+pub mod Unique
+pub mod OneProblem
