@@ -1,0 +1,12 @@
+use Rattle.hop_rule.proofs.Verdicts.{always_exactly, never_exactly}
+use Rattle.hop_rule.proofs.rule.hop.Goals as goal
+
+pub returns-clause-always : goal.returns-clause-always
+returns-clause-always c =
+    let table = c.problems_have_tables.ensures c.args.problem.now c.sites-known.ensures.valid in
+    always_exactly c.args.problem.now c.args.charges.now c.args.i c.args.j c.in_ok-verdict.verdict table c.in_ok-verdict.ensures.verdict
+
+pub returns-clause-never : goal.returns-clause-never
+returns-clause-never c =
+    let table = c.problems_have_tables.ensures c.args.problem.now c.sites-known.ensures.valid in
+    never_exactly c.args.problem.now c.args.charges.now c.args.i c.args.j c.in_ok-verdict.verdict table c.in_ok-verdict.ensures.verdict

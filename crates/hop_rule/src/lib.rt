@@ -1,0 +1,10 @@
+//! Whether a hop may lower the energy: its slack over all potential tables.
+#![tactic(auto)]
+
+mod rule;
+#[cfg(test)]
+mod tests;
+mod verdict;
+
+pub use rule::hop;
+pub use verdict::HopVerdict;

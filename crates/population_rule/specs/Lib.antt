@@ -1,0 +1,4 @@
+pub use Rattle.charge_model.specs.Charges
+pub use Rattle.charge_model.specs.Problem
+pub use Rattle.charge_model.specs.Rules
+pub mod Verdict

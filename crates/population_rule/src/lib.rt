@@ -1,0 +1,10 @@
+//! Whether a site may keep its charge: its tests over all potential tables.
+#![tactic(auto)]
+
+mod rule;
+#[cfg(test)]
+mod tests;
+mod verdict;
+
+pub use rule::population;
+pub use verdict::PopulationVerdict;
