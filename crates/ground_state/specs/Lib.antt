@@ -1,0 +1,3 @@
+pub mod OwnMarks
+pub mod Candidates
+pub mod Answer
