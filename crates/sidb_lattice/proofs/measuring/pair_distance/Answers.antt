@@ -1,0 +1,19 @@
+use Rattle.std.proofs.Common.{arith}
+use Rattle.sidb_lattice.proofs.Apart.{site_in_range, pair_apart, cast_read}
+use Rattle.sidb_lattice.proofs.measuring.pair_distance.Goals as goal
+
+pub squared_distance_on-requires-clause-a : goal.squared_distance_on-requires-clause-a
+squared_distance_on-requires-clause-a c =
+    rw c.site.ensures (site_in_range c.args.layout.now c.args.i c.len-sites.ensures.layout (omega (arith, c.requires.order, c.requires.within)))
+
+pub squared_distance_on-requires-clause-b : goal.squared_distance_on-requires-clause-b
+squared_distance_on-requires-clause-b c =
+    rw c.site-2.ensures (site_in_range c.args.layout.now c.args.j c.len-sites.ensures.layout c.requires.within)
+
+pub returns-clause-in_range : goal.returns-clause-in_range
+returns-clause-in_range c =
+    let measured = c.squared_distance_on.ensures in
+    rw (cast_read c.squared_distance_on.result _ measured.value measured.within) (record {
+      least = rw (c.lattice.ensures, c.site.ensures, c.site-2.ensures) (pair_apart c.args.layout.now c.args.i c.args.j c.len-sites.ensures.layout c.requires.order c.requires.within);
+      greatest = measured.within;
+    })
