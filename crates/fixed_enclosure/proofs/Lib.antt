@@ -1,0 +1,3 @@
+pub mod HullLemmas
+pub mod StandardFacts
+pub mod Refusals

@@ -1,0 +1,6 @@
+pub mod RootLemmas
+pub mod TermLemmas
+pub mod GrowthLemmas
+pub mod SizeLemmas
+pub mod StandardFacts
+pub mod Refusals

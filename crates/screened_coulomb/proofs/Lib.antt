@@ -1,0 +1,7 @@
+pub mod OrderLemmas
+pub mod SizeLemmas
+pub mod HoldLemmas
+pub mod RuleLemmas
+pub mod StandardFacts
+pub mod Refusals
+pub mod LayoutLemmas

@@ -1,0 +1,4 @@
+pub mod Ranges
+pub mod Potential
+pub mod Rounding
+pub mod Layouts
