@@ -1,0 +1,4 @@
+mod Refusals
+mod StandardFacts
+pub mod Depths
+pub mod Written

@@ -1,0 +1,7 @@
+mod Refusals
+mod StandardFacts
+pub mod ClosedSites
+pub mod Flagged
+pub mod Opening
+pub mod Ordered
+pub mod Splits

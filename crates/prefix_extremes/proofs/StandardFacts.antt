@@ -1,0 +1,39 @@
+-- three neighbours along a row, worked by hand
+use Rattle.std.proofs.Common.{◌≡◌, ◌≤ℤ◌, ℤ, pos, neg_ℤ, [], ◌∷◌, refl, arith}
+use Rattle.std.proofs.lemmas.Int.{ints}
+use Rattle.charge_model.specs.declared.charge.Charge.TheVariants.{Neg}
+use Rattle.charge_model.specs.declared.span.Span.{Span}
+use Rattle.charge_model.specs.Problem.{Problem, class_of, near_class_of}
+use Rattle.charge_model.specs.Prefixes.{least_fixed, greatest_fixed, least_potential, greatest_potential, may_be_positive, can_be}
+use Rattle.prefix_extremes.specs.Closed.{IsFirstClosed}
+use Rattle.prefix_extremes.specs.Parts.{assigned_low, pairs_low}
+
+abbrev span : (lo hi : ℤ) → lo ≤ℤ hi → Span
+span lo hi in_order = record { lo = lo; hi = hi; in_order = in_order }
+
+abbrev pub neighbours : Problem
+neighbours = record {
+  sites = 3;
+  base = 3;
+  mu_minus = neg_ℤ (pos 320000000000);
+  mu_plus = neg_ℤ (pos 910000000000);
+  fixed_charges = [];
+  pair_classes = 0 ∷ 1 ∷ 0 ∷ [];
+  near_classes = [];
+  spans = span (pos 620124254312) (pos 620124254313) (omega (arith, ints)) ∷ span (pos 287140799939) (pos 287140799940) (omega (arith, ints)) ∷ [];
+}
+
+-- beside a negative neighbour the first site cannot be negative
+two_negative_close : IsFirstClosed neighbours (Neg ∷ Neg ∷ []) 0
+unfolding can_be least_potential greatest_potential least_fixed greatest_fixed may_be_positive class_of near_class_of
+two_negative_close = record { site = omega arith; before = λ j l. absurd (omega (arith, l)); closed = refl }
+
+-- no site is assigned: the pairs with the site in the middle may be one negative, one positive
+pairs_of_none : pairs_low neighbours 0 3 ≡ neg_ℤ (pos 1240248508626)
+unfolding least_potential least_fixed may_be_positive class_of near_class_of
+pairs_of_none = refl
+
+-- two negative neighbours: the least number of their pair
+pair_of_two : assigned_low neighbours (Neg ∷ Neg ∷ []) 2 ≡ pos 620124254312
+unfolding least_fixed greatest_fixed class_of near_class_of
+pair_of_two = refl
