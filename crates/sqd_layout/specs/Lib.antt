@@ -1,0 +1,4 @@
+pub mod SitesWords
+pub mod SitesLines
+pub mod SitesFaults
+pub mod SitesClash

@@ -1,0 +1,90 @@
+// The lines of a text, or the first that is none.
+ghost use Rattle.std.specs.Prelude.{◌≡◌, ◌⊎◌, ◌+◌, ◌++◌, ◌∷◌, [], length, map, Some, IfOk, IfErr, OnOk};
+ghost use Rattle.std.specs.List.{list_any};
+ghost use Rattle.sqd_layout.specs.declared.fault.SqdFault.TheVariants.{Memory as OutOfMemory, BadLine as WrongLine};
+ghost use Rattle.sqd_layout.specs.SitesLines.{line_in, lines_in, is_lattice as is_lattice_line};
+ghost use Rattle.sqd_layout.specs.SitesFaults.{AreFine, IsSitesFault};
+
+use super::line::SitesLine;
+use super::line_reader::line_of;
+use super::words::{without_return, words_in};
+use crate::SqdFault;
+use std::alloc::Global;
+use text_rows::cut;
+
+/// Whether it is a line `lattice`.
+fn is_lattice(line: &SitesLine) -> bool
+    ensures { result ≡ is_lattice_line (Some line.now) }
+{
+    matches!(line, SitesLine::Lattice(_))
+}
+
+/// Whether one of the lines is a line `lattice`.
+fn has_lattice(lines: &[SitesLine]) -> bool
+    ensures { result ≡ list_any (λ line. is_lattice_line (Some line)) lines.now }
+{
+    lines.iter().any(|line| is_lattice(line))
+}
+
+/// The line of these bytes, which has this number and stands behind the others.
+fn checked_line(
+    alloc: Global,
+    before: &[SitesLine],
+    number: u64,
+    bytes: &[u8],
+) -> Result<SitesLine, SqdFault>
+    requires fine { AreFine (map Some before.now) }
+    ensures line { IfOk result (λ line. line_in bytes.now ≡ Some line) }
+    ensures fine { IfOk result (λ line. AreFine (map Some before.now ++ Some line ∷ [])) }
+    ensures fault { IfErr result (λ fault. (fault ≡ OutOfMemory)
+        ⊎ ((fault ≡ WrongLine number)
+        × (¬ AreFine (map Some before.now ++ line_in bytes.now ∷ [])))) }
+{
+    let row = words_in(alloc, without_return(bytes))?;
+    let Some(line) = line_of(&row) else {
+        return Err(SqdFault::BadLine(number));
+    };
+    if is_lattice(&line) && has_lattice(before) {
+        return Err(SqdFault::BadLine(number));
+    }
+    Ok(line)
+}
+
+/// Adds the line of these bytes.
+fn push_line(alloc: Global, lines: &mut Vec<SitesLine>, bytes: &[u8]) -> Result<(), SqdFault>
+    requires fine { AreFine (map Some lines.old.items) }
+    ensures fine { OnOk result (AreFine (map Some lines.new.items)) }
+    ensures line { OnOk result
+        (map Some lines.new.items ≡ map Some lines.old.items ++ line_in bytes.now ∷ []) }
+    ensures fault { IfErr result (λ fault. (fault ≡ OutOfMemory)
+        ⊎ ((fault ≡ WrongLine (length lines.old.items + 1))
+        × (¬ AreFine (map Some lines.old.items ++ line_in bytes.now ∷ [])))) }
+{
+    let number = lines.len() as u64 + 1;
+    match checked_line(alloc, lines, number, bytes) {
+        Ok(found) => lines.push(found)?,
+        Err(fault) => return Err(fault),
+    }
+    Ok(())
+}
+
+/// All lines of the text, or the first that is none, or is a second line `lattice`.
+pub fn read_lines(alloc: Global, text: &[u8]) -> Result<Vec<SitesLine>, SqdFault>
+    ensures lines { IfOk result (λ lines. lines_in text.now ≡ map Some lines.items) }
+    ensures fine { IfOk result (λ lines. AreFine (map Some lines.items)) }
+    ensures fault { IfErr result (λ fault. (fault ≡ OutOfMemory) ⊎ IsSitesFault text.now fault) }
+{
+    let mut lines = Vec::new(alloc);
+    let mut rest = text;
+    while let Some((line, behind)) = cut(rest, b'\n') {
+        match push_line(alloc, &mut lines, line) {
+            Ok(()) => {}
+            Err(fault) => return Err(fault),
+        }
+        rest = behind;
+    }
+    match push_line(alloc, &mut lines, rest) {
+        Ok(()) => Ok(lines),
+        Err(fault) => Err(fault),
+    }
+}
