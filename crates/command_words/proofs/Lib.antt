@@ -1,0 +1,5 @@
+pub mod ListLemmas
+pub mod MeaningLemmas
+pub mod SettingLemmas
+pub mod StandardFacts
+pub mod Refusals

@@ -1,0 +1,61 @@
+-- each definition refuses a wrong value
+use Rattle.std.proofs.Common.{◌≡◌, ap, ◌⊎◌, inl, inr, ℕ, pos, [], ◌∷◌, Some, None, codes, arith, slice_index_or}
+use Rattle.std.proofs.lemmas.Int.{ints}
+use Rattle.command_words.specs.declared.settings.Settings.{Settings}
+use Rattle.command_words.specs.declared.settings.Task.{Task}
+use Rattle.command_words.specs.declared.settings.Task.TheVariants.{Ground}
+use Rattle.command_words.specs.declared.settings.Form.{Form}
+use Rattle.command_words.specs.declared.settings.Form.TheVariants.{Table}
+use Rattle.command_words.specs.Settings.{IsBase, IsChoice, IsNumber, IsSettingsOf, IsWithin, AreInRange, form_name, level_depth, level_gap, node_limit, permittivity, screening_length, task_name, worker_count}
+use Rattle.clap.proofs.OnLiterals.{clap_on_literals}
+use Rattle.command_words.specs.Command.{sidb_command, matches_in}
+use Rattle.command_words.proofs.StandardFacts.{rows, preset}
+
+no_base_four : IsBase (Some (codes "4")) 4 → ⊥
+no_base_four (inl h) = let e = h.1 in omega (arith, e)
+no_base_four (inr h) = let e = h.1 in omega (arith, e)
+
+no_base_with_a_zero : (base : ℕ) → IsBase (Some (codes "03")) base → ⊥
+no_base_with_a_zero base (inl h) = let e = h.0 in absurd (cc)
+no_base_with_a_zero base (inr h) = let e = h.0 in absurd (cc)
+
+no_preset_base_two : IsBase None 2 → ⊥
+no_preset_base_two e = omega (arith, e)
+
+no_unknown_task : (task : Task) → IsChoice task_name Ground (Some (codes "check")) task → ⊥
+no_unknown_task Ground e = let first : ◌≡◌ {A = ℕ} 99 103 = ap (λ text. slice_index_or text 0 0) e in absurd (omega (arith, first))
+
+no_unknown_form : (form : Form) → IsChoice form_name Table (Some (codes "sites")) form → ⊥
+no_unknown_form Table e = let first : ◌≡◌ {A = ℕ} 115 116 = ap (λ text. slice_index_or text 0 0) e in absurd (omega (arith, first))
+
+no_half_permittivity : IsNumber permittivity (Some (codes "0.5")) (pos 5000) → ⊥
+no_half_permittivity read = omega (arith, ints, read.from)
+
+no_preset_of_the_gap : IsNumber level_depth None (pos 590000000000) → ⊥
+no_preset_of_the_gap e = omega (arith, ints, e)
+
+no_preset_of_the_depth : IsNumber level_gap None (pos 320000000000) → ⊥
+no_preset_of_the_depth e = omega (arith, ints, e)
+
+no_tenth_of_a_length : IsNumber screening_length None (pos 5000) → ⊥
+no_tenth_of_a_length e = omega (arith, ints, e)
+
+no_limit_of_zero : IsWithin node_limit (pos 0) → ⊥
+no_limit_of_zero within = omega (arith, ints, within.from)
+
+no_seventeen_workers : IsWithin worker_count (pos 17) → ⊥
+no_seventeen_workers within = omega (arith, ints, within.to)
+
+no_setting_out_of_range : AreInRange (record preset { base = 4 }) → ⊥
+no_setting_out_of_range are = by are.base
+  where
+    by : (◌≡◌ {A = ℕ} 4 2) ⊎ (◌≡◌ {A = ℕ} 4 3) → ⊥
+    by (inl e) = absurd (omega (arith, e))
+    by (inr e) = absurd (omega (arith, e))
+
+no_repeated_option : (s : Settings) → IsSettingsOf (codes "--eps" ∷ codes "5" ∷ codes "--eps" ∷ codes "5" ∷ []) s → ⊥
+no_repeated_option s means = let none = means.taken in let some = rows.repeated in absurd (cc (none, some))
+
+no_other_preset : IsSettingsOf [] (record preset { base = 2 }) → ⊥
+unfolding clap_on_literals sidb_command matches_in
+no_other_preset means = omega (arith, means.values.base)

@@ -1,0 +1,102 @@
+-- what the definition of the command says of some lists of words
+use Rattle.std.proofs.Common.{◌≡◌, refl, [], ◌∷◌, Some, None, codes, pos}
+use Rattle.clap.specs.declared.error.kind.ErrorKind.TheVariants as kind
+use Rattle.clap.proofs.OnLiterals.{clap_on_literals}
+use Rattle.command_words.specs.declared.settings.Settings.{Settings}
+use Rattle.command_words.specs.declared.settings.Task.TheVariants.{Ground}
+use Rattle.command_words.specs.declared.settings.Form.TheVariants.{Table}
+use Rattle.command_words.specs.Command.{sidb_command, refusals_of, matches_in, value_of}
+use Rattle.command_words.specs.Settings.{AreSettings, IsSettingsOf}
+
+-- each row is one fact about the definition
+pub record Rows : Type 0 where
+  pub no_words : refusals_of [] ≡ []
+  pub left_out : value_of [] (codes "eps") ≡ None
+  pub two_words : value_of (codes "--eps" ∷ codes "5" ∷ []) (codes "eps") ≡ Some (codes "5")
+  pub equals_sign : value_of (codes "--limit=2" ∷ []) (codes "limit") ≡ Some (codes "2")
+  pub equals_taken : refusals_of (codes "--limit=2" ∷ []) ≡ []
+  pub empty_value : value_of (codes "--limit=" ∷ []) (codes "limit") ≡ Some []
+  pub empty_word : value_of (codes "--limit" ∷ [] ∷ []) (codes "limit") ≡ Some []
+  pub empty_word_alone : refusals_of ([] ∷ []) ≡ kind.UnknownArgument ∷ []
+  pub repeated : refusals_of (codes "--eps" ∷ codes "5" ∷ codes "--eps" ∷ codes "5" ∷ []) ≡ kind.ArgumentConflict ∷ []
+  pub repeated_equals : refusals_of (codes "--eps=5" ∷ codes "--eps" ∷ codes "5" ∷ []) ≡ kind.ArgumentConflict ∷ []
+  pub dash_value : refusals_of (codes "--depth" ∷ codes "-1" ∷ []) ≡ kind.UnknownArgument ∷ []
+  pub dash_equals : value_of (codes "--depth=-1" ∷ []) (codes "depth") ≡ Some (codes "-1")
+  pub dash_alone : value_of (codes "--task" ∷ codes "-" ∷ []) (codes "task") ≡ Some (codes "-")
+  pub no_value : refusals_of (codes "--eps" ∷ []) ≡ kind.InvalidValue ∷ []
+  pub option_for_value : refusals_of (codes "--eps" ∷ codes "--gap" ∷ []) ≡ kind.InvalidValue ∷ []
+  pub two_dashes : refusals_of (codes "--" ∷ []) ≡ []
+  pub after_two_dashes : refusals_of (codes "--" ∷ codes "--eps=5" ∷ []) ≡ kind.UnknownArgument ∷ []
+  pub stray : refusals_of (codes "hello" ∷ []) ≡ kind.UnknownArgument ∷ []
+  pub abbreviated : refusals_of (codes "--ep" ∷ codes "5" ∷ []) ≡ kind.UnknownArgument ∷ []
+  pub not_built : refusals_of (codes "--json" ∷ []) ≡ kind.UnknownArgument ∷ []
+  pub help : refusals_of (codes "--help" ∷ []) ≡ kind.DisplayHelp ∷ []
+  pub help_short : refusals_of (codes "-h" ∷ []) ≡ kind.DisplayHelp ∷ []
+  pub help_word : refusals_of (codes "help" ∷ []) ≡ kind.UnknownArgument ∷ []
+  pub help_for_value : value_of (codes "--task" ∷ codes "help" ∷ []) (codes "task") ≡ Some (codes "help")
+  pub version : refusals_of (codes "--version" ∷ []) ≡ kind.UnknownArgument ∷ []
+  pub version_short : refusals_of (codes "-V" ∷ []) ≡ kind.UnknownArgument ∷ []
+
+pub rows : Rows
+unfolding clap_on_literals sidb_command refusals_of matches_in
+rows = record {
+  no_words = refl;
+  left_out = refl;
+  two_words = refl;
+  equals_sign = refl;
+  equals_taken = refl;
+  empty_value = refl;
+  empty_word = refl;
+  empty_word_alone = refl;
+  repeated = refl;
+  repeated_equals = refl;
+  dash_value = refl;
+  dash_equals = refl;
+  dash_alone = refl;
+  no_value = refl;
+  option_for_value = refl;
+  two_dashes = refl;
+  after_two_dashes = refl;
+  stray = refl;
+  abbreviated = refl;
+  not_built = refl;
+  help = refl;
+  help_short = refl;
+  help_word = refl;
+  help_for_value = refl;
+  version = refl;
+  version_short = refl;
+}
+
+-- no words mean the preset settings
+abbrev pub preset : Settings
+preset = record {
+  task = Ground;
+  form = Table;
+  eps = pos 56000;
+  lambda = pos 50000;
+  depth = pos 320000000000;
+  gap = pos 590000000000;
+  coulomb = pos 14399645;
+  base = 3;
+  limit = 1000000;
+  workers = 4;
+}
+
+pub preset_settings : AreSettings (value_of []) preset
+unfolding clap_on_literals sidb_command matches_in
+preset_settings = record {
+  task = refl;
+  form = refl;
+  eps = refl;
+  lambda = refl;
+  depth = refl;
+  gap = refl;
+  coulomb = refl;
+  base = refl;
+  limit = refl;
+  workers = refl;
+}
+
+pub no_words_mean_preset : IsSettingsOf [] preset
+no_words_mean_preset = record { taken = rows.no_words; values = preset_settings }

@@ -1,0 +1,44 @@
+// The names that options give.
+ghost use Rattle.std.specs.Prelude.{◌≡◌, ◌⊎◌, ℕ, IfSome, IfNone};
+ghost use Rattle.command_words.specs.declared.settings.Task.{Task};
+ghost use Rattle.command_words.specs.declared.settings.Form.{Form};
+ghost use Rattle.command_words.specs.Settings.{IsBase, IsChoice, form_name, task_name, text_of};
+
+use crate::{Form, Task};
+
+/// The task that the name is of, or `Ground` where there is no name.
+pub fn task_in(given: Option<&str>) -> Option<Task>
+    ensures found { IfSome result (IsChoice task_name Task.Ground (text_of given.entry)) }
+    ensures none { IfNone result ((task : Task)
+        → IsChoice task_name Task.Ground (text_of given.entry) task → ⊥) }
+{
+    match given {
+        None | Some("ground") => Some(Task::Ground),
+        Some(_) => None,
+    }
+}
+
+/// The form that the name is of, or `Table` where there is no name.
+pub fn form_in(given: Option<&str>) -> Option<Form>
+    ensures found { IfSome result (IsChoice form_name Form.Table (text_of given.entry)) }
+    ensures none { IfNone result ((form : Form)
+        → IsChoice form_name Form.Table (text_of given.entry) form → ⊥) }
+{
+    match given {
+        None | Some("table") => Some(Form::Table),
+        Some(_) => None,
+    }
+}
+
+/// The base that the text is, or 3 where there is no text.
+pub fn base_in(given: Option<&str>) -> Option<u64>
+    ensures found { IfSome result (IsBase (text_of given.entry)) }
+    ensures none { IfNone result ((base : ℕ) → IsBase (text_of given.entry) base → ⊥) }
+    ensures within { IfSome result (λ base. (base ≡ 2) ⊎ (base ≡ 3)) }
+{
+    match given {
+        Some("2") => Some(2),
+        None | Some("3") => Some(3),
+        Some(_) => None,
+    }
+}
