@@ -1,0 +1,5 @@
+pub mod Answering
+pub mod Told
+pub mod Writing
+pub mod Headline
+pub mod OneAnswer

@@ -1,0 +1,17 @@
+use Rattle.std.proofs.Common.{ap, inl, Err}
+use Rattle.fault_lines.specs.declared.input_fault.InputFault.TheVariants.{TooLong}
+use Rattle.sim_cli.specs.Answer.{IsFaultAnswer, IsTaskAnswer}
+use Rattle.sim_cli.proofs.Told.{told_all, told_more}
+use Rattle.sim_cli.proofs.Writing.{ran_wrote, wrote_also}
+use Rattle.sim_cli.proofs.task.answer_task.Goals as goal
+
+pub returns-in-Ok-clause-answer : goal.returns-in-Ok-clause-answer
+returns-in-Ok-clause-answer g c =
+    let wrote = rw c.deref.ensures.value at c.answer_bytes.ensures in
+    told_all _ _ _ c.in-Ok.bytes.items c.in-Ok.ensures.ok.gave c.in-Ok.ensures.ok.end (ran_wrote (IsTaskAnswer c.args.settings.now c.in-Ok.bytes.items) _ _ _ _ _ wrote)
+
+pub returns-in-Err-TooLong-clause-answer : goal.returns-in-Err-TooLong-clause-answer
+returns-in-Err-TooLong-clause-answer g c =
+    let gave = c.in-Err-TooLong.ensures.too_long (ap Err c.in-Err-TooLong.field-0-is) in
+    told_more _ _ _ _ gave.0 gave.2 gave.1 (λ all more. ran_wrote (IsTaskAnswer c.args.settings.now all) _ _ _ _ _
+    (wrote_also (IsFaultAnswer TooLong) (IsTaskAnswer c.args.settings.now all) (λ status text is. inl (TooLong, more, is)) _ _ _ _ _ c.refuse_input.ensures))

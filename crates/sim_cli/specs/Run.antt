@@ -1,0 +1,67 @@
+-- what a run answers and writes, want of memory and faults of the outside included
+use Rattle.std.specs.Prelude.{◌≡◌, ◌⊎◌, ℕ, List, Option}
+use Rattle.sidb_io.specs.Outside.{HasFault, Took, TookFront}
+use Rattle.command_words.specs.declared.settings.Settings.{Settings}
+use Rattle.command_words.specs.Settings.{IsSettingsOf}
+use Rattle.sim_cli.specs.declared.status.Status.{Status}
+use Rattle.sim_cli.specs.declared.status.Status.TheVariants.{Answered, Words, Input, ListTooLong, ReadFault, WriteFault, Memory}
+
+-- that text was written whole
+abbrev pub WroteWhole : (List ℕ → Type 0) → Option (List ℕ) → Option (List ℕ) → Type 0
+WroteWhole is_right old new = (text : List ℕ) × is_right text × Took old text new
+
+-- a front of some such text was written
+abbrev pub WroteFront : (Status → List ℕ → Type 0) → Option (List ℕ) → Option (List ℕ) → Type 0
+WroteFront answer old new =
+    (status : Status) × (text : List ℕ) × answer status text × TookFront old text new
+
+-- the status, and what was written before and after, where `answer` says which status and text
+-- are to be given: the whole text, or nothing after a failed read, or a front of the text
+-- after a failed write and for want of memory
+abbrev pub Ran : (Status → List ℕ → Type 0) → Status → Option (List ℕ) → Option (List ℕ) → Type 0
+Ran answer Answered old new = WroteWhole (answer Answered) old new
+Ran answer Words old new = WroteWhole (answer Words) old new
+Ran answer (Input fault) old new = WroteWhole (answer (Input fault)) old new
+Ran answer ListTooLong old new = WroteWhole (answer ListTooLong) old new
+Ran answer ReadFault old new = new ≡ old
+Ran answer WriteFault old new = WroteFront answer old new
+Ran answer Memory old new =
+    (status : Status) (text : List ℕ) → answer status text → TookFront old text new
+
+-- the same of a call that reads nothing: a failed write was counted, and where memory
+-- does not suffice nothing was written; the counts are those of the sink's faults
+abbrev pub Wrote : (Status → List ℕ → Type 0) → ℕ → ℕ → Status
+    → Option (List ℕ) → Option (List ℕ) → Type 0
+Wrote answer before after Answered old new = WroteWhole (answer Answered) old new
+Wrote answer before after Words old new = WroteWhole (answer Words) old new
+Wrote answer before after (Input fault) old new = WroteWhole (answer (Input fault)) old new
+Wrote answer before after ListTooLong old new = WroteWhole (answer ListTooLong) old new
+Wrote answer before after ReadFault old new = ⊥
+Wrote answer before after WriteFault old new = HasFault before after × WroteFront answer old new
+Wrote answer before after Memory old new = new ≡ old
+
+-- the text was written and the status is given, or writing failed and was counted
+abbrev pub IsWritten : Status → List ℕ → ℕ → ℕ → Status → Option (List ℕ) → Option (List ℕ) → Type 0
+IsWritten status text before after result old new = ((result ≡ status) × Took old text new)
+    ⊎ ((result ≡ WriteFault) × HasFault before after × TookFront old text new)
+
+-- a source is as before: what is left, and the count of faults
+pub record IsUnread (old new : Option (List ℕ)) (before after : ℕ) : Type 0 where
+  pub left : new ≡ old
+  pub faults : after ≡ before
+
+-- a failed read was counted, and the words meant something
+pub record IsReadFault (words : List (List ℕ)) (before after : ℕ) : Type 0 where
+  pub counted : HasFault before after
+  pub settings : Settings
+  pub meant : IsSettingsOf words settings
+
+-- the exit status of the program
+abbrev pub code_of : Status → ℕ
+code_of Answered = 0
+code_of Words = 2
+code_of (Input fault) = 3
+code_of ListTooLong = 6
+code_of ReadFault = 7
+code_of WriteFault = 8
+code_of Memory = 9
