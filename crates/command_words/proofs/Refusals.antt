@@ -3,9 +3,9 @@ use Rattle.std.proofs.Common.{◌≡◌, ap, ◌⊎◌, inl, inr, ℕ, pos, [], 
 use Rattle.std.proofs.lemmas.Int.{ints}
 use Rattle.command_words.specs.declared.settings.Settings.{Settings}
 use Rattle.command_words.specs.declared.settings.Task.{Task}
-use Rattle.command_words.specs.declared.settings.Task.TheVariants.{Ground}
+use Rattle.command_words.specs.declared.settings.Task.TheVariants.{Ground, Potentials}
 use Rattle.command_words.specs.declared.settings.Form.{Form}
-use Rattle.command_words.specs.declared.settings.Form.TheVariants.{Table}
+use Rattle.command_words.specs.declared.settings.Form.TheVariants.{Sites, Sqd, Table}
 use Rattle.command_words.specs.Settings.{IsBase, IsChoice, IsNumber, IsSettingsOf, IsWithin, AreInRange, form_name, level_depth, level_gap, node_limit, permittivity, screening_length, task_name, worker_count}
 use Rattle.clap.proofs.OnLiterals.{clap_on_literals}
 use Rattle.command_words.specs.Command.{sidb_command, matches_in}
@@ -24,9 +24,15 @@ no_preset_base_two e = omega (arith, e)
 
 no_unknown_task : (task : Task) → IsChoice task_name Ground (Some (codes "check")) task → ⊥
 no_unknown_task Ground e = let first : ◌≡◌ {A = ℕ} 99 103 = ap (λ text. slice_index_or text 0 0) e in absurd (omega (arith, first))
+no_unknown_task Potentials e = let first : ◌≡◌ {A = ℕ} 99 112 = ap (λ text. slice_index_or text 0 0) e in absurd (omega (arith, first))
 
-no_unknown_form : (form : Form) → IsChoice form_name Table (Some (codes "sites")) form → ⊥
-no_unknown_form Table e = let first : ◌≡◌ {A = ℕ} 115 116 = ap (λ text. slice_index_or text 0 0) e in absurd (omega (arith, first))
+no_unknown_form : (form : Form) → IsChoice form_name Sites (Some (codes "gds")) form → ⊥
+no_unknown_form Sites e = let first : ◌≡◌ {A = ℕ} 103 115 = ap (λ text. slice_index_or text 0 0) e in absurd (omega (arith, first))
+no_unknown_form Sqd e = let first : ◌≡◌ {A = ℕ} 103 115 = ap (λ text. slice_index_or text 0 0) e in absurd (omega (arith, first))
+no_unknown_form Table e = let first : ◌≡◌ {A = ℕ} 103 116 = ap (λ text. slice_index_or text 0 0) e in absurd (omega (arith, first))
+
+no_preset_form_table : IsChoice form_name Sites None Table → ⊥
+no_preset_form_table e = absurd (cc)
 
 no_half_permittivity : IsNumber permittivity (Some (codes "0.5")) (pos 5000) → ⊥
 no_half_permittivity read = omega (arith, ints, read.from)

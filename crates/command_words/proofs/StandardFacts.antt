@@ -1,10 +1,10 @@
 -- what the definition of the command says of some lists of words
-use Rattle.std.proofs.Common.{◌≡◌, refl, [], ◌∷◌, Some, None, codes, pos}
+use Rattle.std.proofs.Common.{◌≡◌, refl, [], ◌∷◌, Some, None, false, codes, pos}
 use Rattle.clap.specs.declared.error.kind.ErrorKind.TheVariants as kind
 use Rattle.clap.proofs.OnLiterals.{clap_on_literals}
 use Rattle.command_words.specs.declared.settings.Settings.{Settings}
 use Rattle.command_words.specs.declared.settings.Task.TheVariants.{Ground}
-use Rattle.command_words.specs.declared.settings.Form.TheVariants.{Table}
+use Rattle.command_words.specs.declared.settings.Form.TheVariants.{Sites}
 use Rattle.command_words.specs.Command.{sidb_command, refusals_of, matches_in, value_of}
 use Rattle.command_words.specs.Settings.{AreSettings, IsSettingsOf}
 
@@ -29,7 +29,11 @@ pub record Rows : Type 0 where
   pub after_two_dashes : refusals_of (codes "--" ∷ codes "--eps=5" ∷ []) ≡ kind.UnknownArgument ∷ []
   pub stray : refusals_of (codes "hello" ∷ []) ≡ kind.UnknownArgument ∷ []
   pub abbreviated : refusals_of (codes "--ep" ∷ codes "5" ∷ []) ≡ kind.UnknownArgument ∷ []
-  pub not_built : refusals_of (codes "--json" ∷ []) ≡ kind.UnknownArgument ∷ []
+  pub not_built : refusals_of (codes "--grid" ∷ []) ≡ kind.UnknownArgument ∷ []
+  pub flag_given : value_of (codes "--json" ∷ []) (codes "json") ≡ Some (codes "true")
+  pub flag_left_out : value_of [] (codes "energies") ≡ Some (codes "false")
+  pub repeated_flag : refusals_of (codes "--json" ∷ codes "--json" ∷ []) ≡ kind.ArgumentConflict ∷ []
+  pub flag_with_value : refusals_of (codes "--json=true" ∷ []) ≡ kind.TooManyValues ∷ []
   pub help : refusals_of (codes "--help" ∷ []) ≡ kind.DisplayHelp ∷ []
   pub help_short : refusals_of (codes "-h" ∷ []) ≡ kind.DisplayHelp ∷ []
   pub help_word : refusals_of (codes "help" ∷ []) ≡ kind.UnknownArgument ∷ []
@@ -60,6 +64,10 @@ rows = record {
   stray = refl;
   abbreviated = refl;
   not_built = refl;
+  flag_given = refl;
+  flag_left_out = refl;
+  repeated_flag = refl;
+  flag_with_value = refl;
   help = refl;
   help_short = refl;
   help_word = refl;
@@ -72,7 +80,7 @@ rows = record {
 abbrev pub preset : Settings
 preset = record {
   task = Ground;
-  form = Table;
+  form = Sites;
   eps = pos 56000;
   lambda = pos 50000;
   depth = pos 320000000000;
@@ -81,6 +89,8 @@ preset = record {
   base = 3;
   limit = 1000000;
   workers = 4;
+  json = false;
+  energies = false;
 }
 
 pub preset_settings : AreSettings (value_of []) preset
@@ -96,6 +106,8 @@ preset_settings = record {
   base = refl;
   limit = refl;
   workers = refl;
+  json = (λ given. absurd (cc), λ e. absurd (cc));
+  energies = (λ given. absurd (cc), λ e. absurd (cc));
 }
 
 pub no_words_mean_preset : IsSettingsOf [] preset

@@ -4,10 +4,15 @@ use Rattle.clap.specs.Kinds.{Kinds}
 use Rattle.clap.specs.Faults.{fault_of}
 use Rattle.clap.specs.Simple.{App, new_app, new_rule, matches_of, with_rule}
 use Rattle.clap.specs.Walk.{Rule, Row, Text, first_of}
+use Rattle.clap.specs.declared.builder.action.ArgAction.TheVariants.{SetTrue}
 
 -- an option that takes one text, known by its long name
 abbrev pub option_rule : Text → Rule
 option_rule name = record (new_rule name) { long = Some name }
+
+-- a flag, known by its long name
+abbrev pub flag_rule : Text → Rule
+flag_rule name = record (new_rule name) { long = Some name; action = Some SetTrue }
 
 -- a command with these options, in this order
 abbrev pub with_options : App → List Text → App
@@ -22,9 +27,10 @@ option_names = codes "task" ∷ codes "form" ∷ codes "eps" ∷ codes "lambda" 
 abbrev pub program_name : Text
 program_name = codes "sidb"
 
--- the command: options alone, none of which is required, has a default or excludes another
+-- the command: options and two flags, none of which is required, has a default or excludes another
 unfoldable pub sidb_command : App
-sidb_command = with_options (new_app program_name) option_names
+sidb_command = with_rule (with_rule (with_options (new_app program_name) option_names)
+    (flag_rule (codes "json"))) (flag_rule (codes "energies"))
 
 -- the words that clap reads: the name of the program, and then the words
 abbrev pub full_words : List Text → List Text

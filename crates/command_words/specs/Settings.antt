@@ -1,13 +1,13 @@
 -- what a list of words asks for
-use Rattle.std.specs.Prelude.{◌≡◌, ◌⊎◌, ℕ, ℤ, pos, ◌≤ℤ◌, [], List, Option, Some, None, codes, option_map}
+use Rattle.std.specs.Prelude.{◌≡◌, ◌⊎◌, ℕ, ℤ, pos, ◌≤ℤ◌, ◌↔◌, [], List, Option, Some, None, Bool, IsTrue, codes, option_map}
 use Rattle.std.specs.Borrow.{Bor}
 use Rattle.clap.specs.Walk.{Text}
 use Rattle.sidb_units.specs.Decimal.{IsReadAs}
 use Rattle.command_words.specs.declared.quantity.Quantity.{Quantity}
 use Rattle.command_words.specs.declared.settings.Task.{Task}
-use Rattle.command_words.specs.declared.settings.Task.TheVariants.{Ground}
+use Rattle.command_words.specs.declared.settings.Task.TheVariants.{Ground, Potentials}
 use Rattle.command_words.specs.declared.settings.Form.{Form}
-use Rattle.command_words.specs.declared.settings.Form.TheVariants.{Table}
+use Rattle.command_words.specs.declared.settings.Form.TheVariants.{Sites, Sqd, Table}
 use Rattle.command_words.specs.declared.settings.Settings.{Settings}
 use Rattle.command_words.specs.Command.{refusals_of, value_of}
 
@@ -18,8 +18,11 @@ text_of = option_map (λ text. text.now)
 -- the names of the tasks and of the forms
 abbrev pub task_name : Task → Text
 task_name Ground = codes "ground"
+task_name Potentials = codes "potentials"
 
 abbrev pub form_name : Form → Text
+form_name Sites = codes "sites"
+form_name Sqd = codes "sqd"
 form_name Table = codes "table"
 
 -- the choice that a name makes; without a name it is the preset one
@@ -31,6 +34,10 @@ IsChoice name_of preset (Some text) choice = text ≡ name_of choice
 abbrev pub IsBase : Option Text → ℕ → Type 0
 IsBase None base = base ≡ 3
 IsBase (Some text) base = ((text ≡ codes "2") × (base ≡ 2)) ⊎ ((text ≡ codes "3") × (base ≡ 3))
+
+-- a flag is given where its text is `true`
+abbrev pub IsGiven : Option Text → Bool → Type 0
+IsGiven told given = IsTrue given ↔ (told ≡ Some (codes "true"))
 
 -- the number is in the range of the quantity
 pub record IsWithin (q : Quantity) (v : ℤ) : Type 0 where
@@ -93,7 +100,7 @@ worker_count = record { places = 0; least = pos 1; greatest = pos 16; preset = p
 -- the settings are these values of the options, or the preset ones where an option has none
 pub record AreSettings (value : Text → Option Text) (s : Settings) : Type 0 where
   pub task : IsChoice task_name Ground (value (codes "task")) s.task
-  pub form : IsChoice form_name Table (value (codes "form")) s.form
+  pub form : IsChoice form_name Sites (value (codes "form")) s.form
   pub eps : IsNumber permittivity (value (codes "eps")) s.eps
   pub lambda : IsNumber screening_length (value (codes "lambda")) s.lambda
   pub depth : IsNumber level_depth (value (codes "depth")) s.depth
@@ -102,6 +109,8 @@ pub record AreSettings (value : Text → Option Text) (s : Settings) : Type 0 wh
   pub base : IsBase (value (codes "base")) s.base
   pub limit : IsNumber node_limit (value (codes "limit")) (pos s.limit)
   pub workers : IsNumber worker_count (value (codes "workers")) (pos s.workers)
+  pub json : IsGiven (value (codes "json")) s.json
+  pub energies : IsGiven (value (codes "energies")) s.energies
 
 -- the words mean these settings: clap gives matches, and these are their values
 pub record IsSettingsOf (words : List Text) (s : Settings) : Type 0 where

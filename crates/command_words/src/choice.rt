@@ -2,7 +2,7 @@
 ghost use Rattle.std.specs.Prelude.{◌≡◌, ◌⊎◌, ℕ, IfSome, IfNone};
 ghost use Rattle.command_words.specs.declared.settings.Task.{Task};
 ghost use Rattle.command_words.specs.declared.settings.Form.{Form};
-ghost use Rattle.command_words.specs.Settings.{IsBase, IsChoice, form_name, task_name, text_of};
+ghost use Rattle.command_words.specs.Settings.{IsBase, IsChoice, IsGiven, form_name, task_name, text_of};
 
 use crate::{Form, Task};
 
@@ -14,18 +14,21 @@ pub fn task_in(given: Option<&str>) -> Option<Task>
 {
     match given {
         None | Some("ground") => Some(Task::Ground),
+        Some("potentials") => Some(Task::Potentials),
         Some(_) => None,
     }
 }
 
-/// The form that the name is of, or `Table` where there is no name.
+/// The form that the name is of, or `Sites` where there is no name.
 pub fn form_in(given: Option<&str>) -> Option<Form>
-    ensures found { IfSome result (IsChoice form_name Form.Table (text_of given.entry)) }
+    ensures found { IfSome result (IsChoice form_name Form.Sites (text_of given.entry)) }
     ensures none { IfNone result ((form : Form)
-        → IsChoice form_name Form.Table (text_of given.entry) form → ⊥) }
+        → IsChoice form_name Form.Sites (text_of given.entry) form → ⊥) }
 {
     match given {
-        None | Some("table") => Some(Form::Table),
+        None | Some("sites") => Some(Form::Sites),
+        Some("sqd") => Some(Form::Sqd),
+        Some("table") => Some(Form::Table),
         Some(_) => None,
     }
 }
@@ -40,5 +43,15 @@ pub fn base_in(given: Option<&str>) -> Option<u64>
         Some("2") => Some(2),
         None | Some("3") => Some(3),
         Some(_) => None,
+    }
+}
+
+/// Whether the flag was given, of which the text tells.
+pub fn is_given(told: Option<&str>) -> bool
+    ensures { IsGiven (text_of told.entry) result }
+{
+    match told {
+        Some(text) => text == "true",
+        None => false,
     }
 }

@@ -3,11 +3,17 @@
 pub enum Task {
     /// Prints the ground list of a problem.
     Ground,
+    /// Prints the table text of a problem.
+    Potentials,
 }
 
 /// The form of a run's input.
 #[derive(Clone, Copy, Debug, PartialEq, Eq)]
 pub enum Form {
+    /// A sites text.
+    Sites,
+    /// A text in the manner of SiQAD.
+    Sqd,
     /// A table text.
     Table,
 }
@@ -32,4 +38,8 @@ pub struct Settings {
     /// The most nodes of a search.
     pub limit: u64,
     pub workers: u64,
+    /// The report is one line of JSON.
+    pub json: bool,
+    /// The report has the energy of each entry.
+    pub energies: bool,
 }

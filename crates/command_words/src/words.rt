@@ -5,7 +5,7 @@ ghost use Rattle.command_words.specs.Command.{full_words};
 ghost use Rattle.command_words.specs.Settings.{AreInRange, AreSettings, IsSettingsOf};
 
 use crate::Settings;
-use crate::choice::{base_in, form_in, task_in};
+use crate::choice::{base_in, form_in, is_given, task_in};
 use crate::command::simple_command;
 use crate::quantity::{
     COULOMB_NUMBER, LEVEL_DEPTH, LEVEL_GAP, NODE_LIMIT, PERMITTIVITY, SCREENING_LENGTH,
@@ -53,6 +53,8 @@ fn settings_in(matches: &ArgMatches<'_>) -> Option<Settings>
         base: base_in(matches.get_str("base"))?,
         limit: count_in(matches.get_str("limit"), &NODE_LIMIT)?,
         workers: count_in(matches.get_str("workers"), &WORKER_COUNT)?,
+        json: is_given(matches.get_str("json")),
+        energies: is_given(matches.get_str("energies")),
     })
 }
 
