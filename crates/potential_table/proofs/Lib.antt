@@ -1,12 +1,9 @@
-pub mod LineLemmas
-pub mod KindLemmas
-pub mod GridLemmas
-pub mod Sound
-pub mod PlaceLemmas
-pub mod CountLemmas
+pub mod PushLemmas
 pub mod RangeLemmas
-pub mod FrontLemmas
-pub mod FillLemmas
-pub mod ProblemLemmas
-pub mod Unique
-pub mod OneProblem
+pub mod StageLemmas
+pub mod HeadStages
+pub mod EarlierLemmas
+pub mod PairStages
+pub mod NearStages
+pub mod PrintedText
+mod StandardFacts

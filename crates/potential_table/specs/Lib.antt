@@ -1,9 +1,3 @@
 pub use Rattle.charge_model.specs.Problem
-pub use Rattle.potential_problem.specs.Made
-pub mod Lines
-pub mod Kinds
-pub mod Order
-pub mod Ranges
-pub mod Seen
-pub mod Reading
-pub mod Filled
+pub use Rattle.table_reading.specs.Reading
+pub mod TableRows

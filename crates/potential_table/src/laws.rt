@@ -1,22 +1,18 @@
-//! What table texts promise: each has one reading at most.
-ghost use Rattle.std.specs.Prelude.{◌≡◌, ℕ, List};
-ghost use Rattle.charge_model.specs.Problem.{Problem as ProblemData};
-ghost use Rattle.potential_table.specs.declared.fault.TableFault.{TableFault as FaultData};
-ghost use Rattle.potential_table.specs.Reading.{IsTableText, IsTableFault};
+//! What printed table texts promise: each is read back as the problem that it was printed of.
+ghost use Rattle.std.specs.Prelude.{◌≡◌};
+ghost use Rattle.charge_model.specs.Problem.{Problem as ProblemData, IsProblem};
+ghost use Rattle.text_rows.specs.Rows.{text_of};
+ghost use Rattle.table_reading.specs.Reading.{IsTableText};
+ghost use Rattle.potential_table.specs.TableRows.{table_rows};
 
-/// A text is the table text of one problem at most.
-pub fn one_problem()
-    ensures { (text : List ℕ) (p q : ProblemData) → IsTableText text p → IsTableText text q → p ≡ q }
+pub use table_reading::laws::{each_text_is_read, no_fault, one_fault, one_problem};
+
+/// What is printed of a problem is a table text of it.
+pub fn printed_text()
+    ensures { (p : ProblemData) → IsProblem p → IsTableText (text_of (table_rows p)) p }
 {}
 
-/// A text has one first fault at most.
-pub fn one_fault()
-    ensures { (text : List ℕ) (f g : FaultData)
-        → IsTableFault text f → IsTableFault text g → f ≡ g }
-{}
-
-/// A table text has no fault.
-pub fn no_fault()
-    ensures { (text : List ℕ) (p : ProblemData) (f : FaultData)
-        → IsTableText text p → IsTableFault text f → ⊥ }
+/// What is printed of a problem is read back as this problem, and as no other.
+pub fn read_back()
+    ensures { (p q : ProblemData) → IsProblem p → IsTableText (text_of (table_rows p)) q → q ≡ p }
 {}

@@ -1,23 +1,14 @@
-//! Table texts: each is exactly its problem, or has exactly one first fault.
+//! Table texts: the readers of the crate below, and the printer.
 #![tactic(auto)]
 
-mod fault;
-mod finish;
-mod front;
 pub mod laws;
-mod line;
-mod line_reader;
-mod note;
-mod order;
-mod range;
-mod read;
-mod seen;
-
-pub use fault::{LineWhy, TableFault};
-pub use front::MAX_FIRST_LINE;
-pub use line::TableLine;
-pub use potential_problem::{Levels, Problem, Span, problem_of, problem_with, span_between};
-pub use read::{TableFront, read_table, read_table_front};
-
+mod lines;
+mod print;
 #[cfg(test)]
 mod tests;
+
+pub use print::print_table;
+pub use table_reading::{
+    Levels, LineWhy, MAX_FIRST_LINE, Problem, Span, TableFault, TableFront, TableLine, problem_of,
+    problem_with, read_table, read_table_front, span_between,
+};

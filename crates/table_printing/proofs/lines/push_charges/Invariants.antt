@@ -1,6 +1,0 @@
-use Rattle.std.proofs.Common.{◌≡◌, ◌++◌, map, take}
-use Rattle.potential_table.specs.declared.line.TableLine.TheVariants.{Charge}
-use Rattle.table_printing.proofs.lines.push_charges.Given as goal
-
-abbrev pub invariant-loop-a : goal.invariant-loop-a
-invariant-loop-a l = l.lines.items ≡ l.fn.lines.items ++ map Charge (take l.a l.problem.fixed_charges)

@@ -1,6 +1,0 @@
-use Rattle.table_printing.specs.TableRows.{pairs_from}
-use Rattle.table_printing.proofs.PushLemmas.{one_more_site}
-use Rattle.table_printing.proofs.lines.push_pairs.Goals as goal
-
-pub loop-i-preserved : goal.loop-i-preserved
-loop-i-preserved c = one_more_site (pairs_from c.args.problem.now) c.args.lines.now.items c.loop-i.lines.items _ c.loop-i.i c.loop-i.invariant c.in_ok-push_pairs_from.ensures

@@ -1,6 +1,0 @@
-use Rattle.std.proofs.Common.{arith}
-use Rattle.table_printing.proofs.PushLemmas.{one_more_line}
-use Rattle.table_printing.proofs.print.print_lines.Goals as goal
-
-pub loop-line-preserved : goal.loop-line-preserved
-loop-line-preserved c = one_more_line c.loop-line.text.items _ c.args.lines.now c.loop-line.line-index _ (omega arith) c.loop-line.invariant c.in_ok-push_line.ensures

@@ -1,0 +1,15 @@
+pub mod LineLemmas
+pub mod KindLemmas
+pub mod GridLemmas
+pub mod Sound
+pub mod PlaceLemmas
+pub mod CountLemmas
+pub mod RangeLemmas
+pub mod FrontLemmas
+pub mod FillLemmas
+pub mod ProblemLemmas
+pub mod Unique
+pub mod OneProblem
+pub mod LineReadings
+pub mod Filling
+pub mod Exists
