@@ -27,3 +27,4 @@ pub record IsUnassigned (p : Problem) (d k : ℕ) (e : Extremes) : Type 0 where
 pub record AreExtremes (p : Problem) (q : List Charge) (k : ℕ) (e : Extremes) : Type 0 where
   pub least : e.least.value ≡ least_potential p q k
   pub greatest : e.greatest.value ≡ greatest_potential p q k
+  pub small : AreSmall (152 * 10 ^ 13) e

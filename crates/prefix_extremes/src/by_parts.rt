@@ -1,5 +1,5 @@
 ghost use Rattle.std.specs.Prelude.{◌≡◌, ◌<◌, ◌≤◌, ◌-◌, ◌*◌, ◌^◌, length, unsigned_abs};
-ghost use Rattle.charge_model.specs.Prefixes.{site_low, low};
+ghost use Rattle.charge_model.specs.Prefixes.{can_be, site_low, low};
 ghost use Rattle.prefix_extremes.specs.Closed.{keeps_open};
 ghost use Rattle.prefix_extremes.specs.Known.{IsAssigned, IsUnassigned, AreExtremes};
 ghost use Rattle.prefix_extremes.specs.Parts.{assigned_low, unassigned_low, pairs_low};
@@ -8,7 +8,7 @@ use crate::amount::{Amount, added};
 use crate::bound::site_cost;
 use crate::calls::allows;
 use crate::extremes::{Extremes, plus};
-use charge_state::Charges;
+use charge_state::{Charge, Charges};
 use potential_problem::Problem;
 
 /// The extremes of the potential of site k, from the part of the assigned sites and that of the
@@ -28,6 +28,21 @@ pub fn whole_extremes(
     let _few = problem.sites();
     let _short = prefix.len();
     plus(known, others)
+}
+
+/// Whether site k can have this charge.
+#[tactic(auto, using(crate::proofs::Opening::can_allows))]
+pub fn can_by_parts(
+    problem: &Problem,
+    _prefix: &Charges,
+    k: usize,
+    charge: Charge,
+    extremes: Extremes,
+) -> bool
+    requires extremes { AreExtremes problem.now _prefix.now k extremes }
+    ensures { result ≡ can_be problem.now _prefix.now k charge }
+{
+    allows(problem, charge, extremes)
 }
 
 /// Whether an assigned site k keeps the prefix open: whether it can have its charge.

@@ -8,7 +8,7 @@ ghost use Rattle.prefix_extremes.specs.Closed.{keeps_open, IsFirstClosed};
 
 pub use prefix_laws::laws::{
     bounds_lie_below, listed_lists_are_in_the_tree, nodes_are_counted, nodes_are_tested,
-    one_least_certain, prefixes_are_open,
+    one_least_certain, potentials_lie_between, prefixes_are_open, refused_charges_close,
 };
 
 /// A prefix is open exactly where each site keeps it open.

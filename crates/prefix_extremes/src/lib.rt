@@ -13,13 +13,14 @@ pub mod laws;
 #[cfg(test)]
 mod tests;
 
-pub use amount::{Amount, added};
+pub use amount::{Amount, added, negated};
 pub use bound::{cost, low, pairs_low};
 pub use by_parts::{
-    assigned_keeps_open, low_by_parts, site_low_by_parts, unassigned_keeps_open, whole_extremes,
+    assigned_keeps_open, can_by_parts, low_by_parts, site_low_by_parts, unassigned_keeps_open,
+    whole_extremes,
 };
 pub use calls::{can, closed_at};
 pub use extremes::{
     Extremes, class_span, fixed, may_be_positive, nothing, plus, products, unassigned,
 };
-pub use flags::{Flags, flags_of};
+pub use flags::{Flags, flag, flags_of};
