@@ -1,30 +1,27 @@
-ghost use Rattle.std.specs.Prelude.{◌≡◌, ◌≢◌, ℕ, ◌<◌, ◌≤◌, ◌+◌, ◌-◌, ◌*◌, ◌^◌, ◌++◌, ◌∷◌, [], pos, length, unsigned_abs, IfOk, IfSome, is_none, option_to_list};
-ghost use Rattle.charge_model.specs.Prefixes.{low};
-ghost use Rattle.charge_model.specs.Tree.{is_open};
-ghost use Rattle.prefix_extremes.specs.Closed.{IsFirstClosed};
-ghost use Rattle.prefix_extremes.specs.Parts.{unassigned_low};
+ghost use Rattle.std.specs.Prelude.{◌≡◌, ◌≢◌, ◌<◌, ◌≤◌, ◌++◌, ◌∷◌, [], length, IfOk, IfSome, is_none};
+ghost use Rattle.charge_model.specs.Prefixes.{can_be, low};
+ghost use Rattle.charge_model.specs.Tree.{is_open, is_node};
 ghost use Rattle.charge_model.specs.declared.TheConstants.{MAX_SITES};
-ghost use Rattle.prefix_extremes.specs.Flags.{AreFlags};
-ghost use Rattle.prefix_extremes.specs.Known.{IsAssigned, IsUnassigned};
-ghost use Rattle.prefix_bound.specs.Rows.{IsRow, IsSpan, extremes_at, row_at};
-ghost use Rattle.prefix_bound.specs.Tables.{AreSpanRows, AreUnassignedRows, ArePairParts, IsPrefixPart, HasLast, part_at};
+ghost use Rattle.prefix_extremes.specs.Closed.{IsFirstClosed};
+ghost use Rattle.prefix_extremes.specs.Known.{AreExtremes};
+ghost use Rattle.prefix_bound.specs.Tables.{HasLast};
+ghost use Rattle.prefix_bound.specs.Within.{is_within};
 
-use crate::rows::{
-    Row, first_row, next_row, row_extremes, row_in, row_low, row_whole, span_row, unassigned_row,
-};
 use charge_state::{Charge, Charges};
 use potential_problem::Problem;
-use prefix_extremes::laws::{sites_decide, unassigned_sites_stay_open};
-use prefix_extremes::{
-    Amount, Extremes, Flags, added, assigned_keeps_open, cost, flags_of, low_by_parts, pairs_low,
-    unassigned_keeps_open,
+use prefix_extremes::{Amount, Extremes, can_by_parts, flags_of, low_by_parts};
+use prefix_rows::laws::shorter_prefixes_keep_tables;
+use prefix_rows::{
+    Row, add_limit, add_part, advance, empty_row, first_parts, first_rows, pair_parts, part_in,
+    row_in, row_whole, rows_closed_at, rows_low, rows_open, span_rows, unassigned_rows,
 };
 use sidb_units::Memory;
 use std::alloc::Global;
 use std::marker::Model;
 
 /// A prefix of a problem, with the extremes of each site's potential, one row for each number of
-/// assigned sites: a push writes the next row, a pop goes back to the one before.
+/// assigned sites: a push writes the next row, a pop goes back to the one before. Beside them stand
+/// the limits of each charge, and the parts of the lower bound.
 #[derive(Drop)]
 pub struct Track {
     problem: Problem,
@@ -33,6 +30,7 @@ pub struct Track {
     unassigned: Vec<Row>,
     pairs: Vec<Amount>,
     rows: Vec<Row>,
+    limits: Row,
     parts: Vec<Amount>,
 }
 
@@ -48,76 +46,19 @@ impl Model for Track {
     ghost invariant = { IsTrack };
 }
 
-fn span_rows(alloc: Global, problem: &Problem) -> Result<Vec<Row>, Memory>
-    ensures { IfOk result (λ v. AreSpanRows problem.now problem.now.sites v.items) }
-{
-    let mut rows = Vec::new(alloc);
-    for j in 0..problem.sites() {
-        rows.push(span_row(problem, j))?;
-    }
-    Ok(rows)
-}
-
-fn unassigned_rows(alloc: Global, problem: &Problem, flags: &Flags) -> Result<Vec<Row>, Memory>
-    requires { AreFlags problem.now problem.now.sites flags.now }
-    ensures { IfOk result (λ v. AreUnassignedRows problem.now (problem.now.sites + 1) v.items) }
-{
-    let mut rows = Vec::new(alloc);
-    for depth in 0..problem.sites() + 1 {
-        rows.push(unassigned_row(problem, flags, depth))?;
-    }
-    Ok(rows)
-}
-
-fn pair_parts(alloc: Global, problem: &Problem, flags: &Flags) -> Result<Vec<Amount>, Memory>
-    requires { AreFlags problem.now problem.now.sites flags.now }
-    ensures { IfOk result (λ v. ArePairParts problem.now (problem.now.sites + 1) v.items) }
-{
-    let mut parts = Vec::new(alloc);
-    for depth in 0..problem.sites() + 1 {
-        parts.push(pairs_low(problem, flags, depth))?;
-    }
-    Ok(parts)
-}
-
-/// The part at a depth.
-fn part_in(parts: &[Amount], depth: usize) -> Amount
-    requires { depth < length parts.now }
-    ensures { result ≡ part_at parts.now depth }
-{
-    parts[depth]
-}
-
-fn next_part(
-    problem: &Problem,
-    prefix: &Charges,
-    charge: Charge,
-    before: Amount,
-    own: Extremes,
-) -> Amount
-    requires room { length prefix.now < problem.now.sites }
-    requires before { IsPrefixPart problem.now prefix.now (length prefix.now) before }
-    requires own { IsAssigned problem.now prefix.now (length prefix.now)
-        (length prefix.now) own }
-    ensures { IsPrefixPart problem.now (prefix.now ++ charge ∷ [])
-        (length prefix.now + 1) result }
-{
-    let _few = problem.sites();
-    added(before, cost(charge, own))
-}
-
 impl Track {
     /// The track of the empty prefix of this problem, which takes all its memory here.
     pub fn new(alloc: Global, problem: &Problem) -> Result<Track, Memory>
         ensures problem { IfOk result (λ t. t.problem ≡ problem.now) }
         ensures prefix { IfOk result (λ t. t.prefix ≡ []) }
     {
+        let _few = problem.sites();
         let flags = flags_of(problem);
         let spans = span_rows(alloc, problem)?;
-        let unassigned = unassigned_rows(alloc, problem, &flags)?;
+        let unassigned = unassigned_rows(alloc, problem, &flags, spans.as_slice())?;
         let pairs = pair_parts(alloc, problem, &flags)?;
-        let rows = vec![in alloc; first_row(problem); problem.sites() + 1]?;
-        let parts = vec![in alloc; Amount::zero(); problem.sites() + 1]?;
+        let rows = first_rows(alloc, problem)?;
+        let parts = first_parts(alloc, problem)?;
         Ok(Track {
             problem: problem.copy(alloc)?,
             charges: Charges::empty(),
@@ -125,6 +66,7 @@ impl Track {
             unassigned,
             pairs,
             rows,
+            limits: empty_row(),
             parts,
         })
     }
@@ -137,19 +79,21 @@ impl Track {
         ensures prefix { self.new.prefix ≡ self.old.prefix ++ charge ∷ [] }
     {
         let depth = self.charges.len();
-        let row = row_in(self.rows.as_slice(), depth);
-        let next = next_row(
+        add_part(
             problem,
             &self.charges,
             charge,
-            row,
+            self.parts.as_mut_slice(),
+            self.rows.as_slice(),
+        );
+        advance(
+            problem,
+            &self.charges,
+            charge,
+            self.rows.as_mut_slice(),
             row_in(self.spans.as_slice(), depth),
         );
-        let own = row_extremes(row, depth);
-        let before = part_in(self.parts.as_slice(), depth);
-        let part = next_part(problem, &self.charges, charge, before, own);
-        self.rows[depth + 1] = next;
-        self.parts[depth + 1] = part;
+        add_limit(problem, &self.charges, charge, &mut self.limits);
         self.charges.push(charge);
     }
 
@@ -160,6 +104,7 @@ impl Track {
         ensures problem { self.new.problem ≡ self.old.problem }
         ensures prefix { HasLast self.old.prefix self.new.prefix }
     {
+        shorter_prefixes_keep_tables();
         self.charges.pop();
     }
 
@@ -177,6 +122,57 @@ impl Track {
         ensures few { self.now.problem.sites ≤ MAX_SITES }
     {
         self.charges.len()
+    }
+
+    /// The extremes of the potential of site k over the prefix.
+    pub fn potential(&self, problem: &Problem, k: usize) -> Extremes
+        requires problem { self.now.problem ≡ problem.now }
+        requires site { k < problem.now.sites }
+        ensures { AreExtremes problem.now self.now.prefix k result }
+    {
+        let depth = self.charges.len();
+        row_whole(
+            problem,
+            &self.charges,
+            row_in(self.rows.as_slice(), depth),
+            row_in(self.unassigned.as_slice(), depth),
+            k,
+        )
+    }
+
+    /// Whether the next site can have this charge.
+    pub fn takes(&self, problem: &Problem, charge: Charge) -> bool
+        requires problem { self.now.problem ≡ problem.now }
+        requires room { length self.now.prefix < problem.now.sites }
+        ensures { result ≡ can_be problem.now self.now.prefix (length self.now.prefix) charge }
+    {
+        let next = self.charges.len();
+        let extremes = self.potential(problem, next);
+        can_by_parts(problem, &self.charges, next, charge, extremes)
+    }
+
+    /// Whether the prefix is open and its lower bound at most the threshold, where there is one.
+    #[tactic(auto, unfolding(charge_model::specs::Tree::is_node))]
+    pub fn enters(&self, problem: &Problem, threshold: Option<i64>) -> bool
+        requires problem { self.now.problem ≡ problem.now }
+        ensures { result ≡ is_node problem.now threshold self.now.prefix }
+    {
+        self.is_open(problem) && is_within(self.low(problem), threshold)
+    }
+
+    /// Whether the prefix is open.
+    fn is_open(&self, problem: &Problem) -> bool
+        requires problem { self.now.problem ≡ problem.now }
+        ensures { result ≡ is_open problem.now self.now.prefix }
+    {
+        let depth = self.charges.len();
+        rows_open(
+            problem,
+            &self.charges,
+            row_in(self.rows.as_slice(), depth),
+            row_in(self.unassigned.as_slice(), depth),
+            &self.limits,
+        )
     }
 
     /// The first site that keeps the prefix from being open.
@@ -212,54 +208,12 @@ impl Track {
     }
 }
 
-/// The first site that keeps the prefix from being open. In base 3 it is never an unassigned one.
-fn rows_closed_at(problem: &Problem, prefix: &Charges, row: &Row, rest: &Row) -> Option<usize>
-    requires short { length prefix.now ≤ problem.now.sites }
-    requires row { IsRow problem.now.sites
-        (IsAssigned problem.now prefix.now (length prefix.now)) row.now }
-    requires rest { IsRow problem.now.sites
-        (IsUnassigned problem.now (length prefix.now)) rest.now }
-    ensures found { IfSome result (IsFirstClosed problem.now prefix.now) }
-    ensures none { is_none result ≡ is_open problem.now prefix.now }
+/// Whether an energy is at most the threshold, where there is one.
+fn is_within(energy: i64, threshold: Option<i64>) -> bool
+    ensures { result ≡ is_within energy threshold }
 {
-    sites_decide();
-    unassigned_sites_stay_open();
-    let depth = prefix.len();
-    let sites = problem.sites();
-    for k in 0..depth {
-        let whole = row_whole(problem, prefix, row, rest, k);
-        let open = assigned_keeps_open(problem, prefix, k, whole);
-        if !open {
-            return Some(k);
-        }
+    match threshold {
+        None => true,
+        Some(most) => energy <= most,
     }
-    if problem.base() == 3 {
-        return None;
-    }
-    for k in depth..sites {
-        let whole = row_whole(problem, prefix, row, rest, k);
-        let open = unassigned_keeps_open(problem, prefix, k, whole);
-        if !open {
-            return Some(k);
-        }
-    }
-    None
-}
-
-fn rows_low(problem: &Problem, prefix: &Charges, row: &Row, rest: &Row) -> Amount
-    requires short { length prefix.now ≤ problem.now.sites }
-    requires row { IsRow problem.now.sites
-        (IsAssigned problem.now prefix.now (length prefix.now)) row.now }
-    requires rest { IsRow problem.now.sites
-        (IsUnassigned problem.now (length prefix.now)) rest.now }
-    ensures value { result.value
-        ≡ unassigned_low problem.now prefix.now (problem.now.sites - length prefix.now) }
-    ensures small { unsigned_abs result.value ≤ 64 * (88 * 10 ^ 13) }
-{
-    let depth = prefix.len();
-    let mut sum = Amount::zero();
-    for a in 0..problem.sites() - depth {
-        sum = added(sum, row_low(problem, prefix, row, rest, depth + a));
-    }
-    sum
 }

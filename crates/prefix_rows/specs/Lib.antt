@@ -1,0 +1,9 @@
+pub mod Limits
+pub mod Rows
+pub mod Tables
+pub use Rattle.prefix_extremes.specs.Closed
+pub use Rattle.prefix_extremes.specs.Known
+pub use Rattle.prefix_extremes.specs.Parts
+pub use Rattle.charge_model.specs.Problem
+pub use Rattle.charge_model.specs.Prefixes
+pub use Rattle.charge_model.specs.Tree
