@@ -1,0 +1,4 @@
+pub mod Linear
+pub mod Extremes
+pub mod Decisions
+pub mod Existence

@@ -1,0 +1,3 @@
+pub use Rattle.charge_model.specs.Problem
+pub use Rattle.charge_model.specs.Rules
+pub use Rattle.charge_model.specs.Tree
