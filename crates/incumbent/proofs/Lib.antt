@@ -1,0 +1,4 @@
+pub mod Bounded
+pub mod Lists
+pub mod StandardFacts
+mod Refusals

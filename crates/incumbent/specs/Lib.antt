@@ -1,0 +1,2 @@
+pub mod Hunting
+pub use Rattle.charge_model.specs.Tree
