@@ -1,0 +1,5 @@
+mod Refusals
+pub mod StandardFacts
+pub mod Passed
+pub mod Swept
+pub mod Answering

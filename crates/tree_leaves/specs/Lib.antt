@@ -1,0 +1,10 @@
+pub mod Leaves
+pub mod LeavesSeen
+pub mod Answer
+pub mod Subtree
+pub mod Visits
+pub use Rattle.charge_model.specs.Charges
+pub use Rattle.charge_model.specs.Problem
+pub use Rattle.charge_model.specs.Rules
+pub use Rattle.charge_model.specs.GroundList
+pub use Rattle.charge_model.specs.Tree

@@ -1,0 +1,193 @@
+ghost use Rattle.std.specs.Prelude.{◌≡◌, ◌≢◌, ◌<◌, ◌≤◌, ◌∷◌, ◌++◌, ◌↔◌, [], length, IfOk, IsTrue, Some, None, MatchOption};
+ghost use Rattle.charge_model.specs.declared.charge.Charge.TheVariants.{Pos};
+ghost use Rattle.charge_model.specs.Rules.{IsChargeList};
+ghost use Rattle.charge_model.specs.Tree.{is_node, node_count};
+ghost use Rattle.sidb_units.specs.declared.TheConstants.{MAX_NODES};
+ghost use Rattle.tree_leaves.specs.Answer.{IsListed, IsLeavesAnswer};
+ghost use Rattle.tree_leaves.specs.Subtree.{IsPrefix, nodes_under, nodes_beyond};
+ghost use Rattle.tree_leaves.specs.Visits.{IsVisited, AreChildrenVisited, IsKept};
+
+use crate::leaf_list::{LeafList, LeavesAnswer};
+use charge_state::{Charge, Charges};
+use leaf_rules::is_possible;
+use potential_problem::Problem;
+use prefix_bound::Track;
+use prefix_bound::laws::{nodes_are_tested, pops_undo_pushes, refused_charges_close};
+use sidb_units::{MAX_NODES, Memory};
+use std::alloc::Global;
+
+/// The lists found so far, and how many more prefixes may be entered.
+#[derive(Drop)]
+pub struct Found {
+    pub lists: Vec<Charges>,
+    pub left: u64,
+}
+
+/// Keeps a node that has all its charges, where it is possibly valid.
+fn keep_leaf(
+    alloc: Global,
+    problem: &Problem,
+    threshold: Option<i64>,
+    track: &Track,
+    found: &mut Found,
+) -> Result<(), Memory>
+    requires problem { track.now.problem ≡ problem.now }
+    requires full { IsChargeList problem.now track.now.prefix }
+    requires node { IsTrue (is_node problem.now threshold track.now.prefix) }
+    ensures { IfOk result (λ _. IsKept problem.now threshold track.now.prefix found.old found.new) }
+{
+    let possible = is_possible(alloc, problem, track)?;
+    if possible {
+        found.lists.push(track.charges().copy())?;
+    }
+    Ok(())
+}
+
+/// Visits the prefix with one more charge.
+#[cycle(search)]
+fn visit_child(
+    alloc: Global,
+    problem: &Problem,
+    threshold: Option<i64>,
+    track: &mut Track,
+    charge: Charge,
+    found: &mut Found,
+) -> Result<bool, Memory>
+    requires problem { track.old.problem ≡ problem.now }
+    requires prefix { IsPrefix problem.now track.old.prefix }
+    requires room { length track.old.prefix < problem.now.sites }
+    requires base { problem.now.base ≡ 2 → charge ≢ Pos }
+    ensures within { IfOk result (λ within. IsTrue within
+        ↔ (nodes_under problem.now threshold (track.old.prefix ++ charge ∷ []) ≤ found.old.left)) }
+    ensures visited { IfOk result (λ within. IsTrue within → IsVisited problem.now threshold
+        (track.old.prefix ++ charge ∷ []) found.old found.new) }
+    ensures kept { IfOk result (λ within. IsTrue within → track.new ≡ track.old) }
+{
+    pops_undo_pushes();
+    refused_charges_close();
+    if !track.takes(problem, charge) {
+        return Ok(true);
+    }
+    track.push(problem, charge);
+    let within = visit(alloc, problem, threshold, track, found)?;
+    if within {
+        track.pop(problem);
+    }
+    Ok(within)
+}
+
+/// Visits the prefix with each charge of the base after it.
+#[cycle(search)]
+fn visit_children(
+    alloc: Global,
+    problem: &Problem,
+    threshold: Option<i64>,
+    track: &mut Track,
+    found: &mut Found,
+) -> Result<bool, Memory>
+    requires problem { track.old.problem ≡ problem.now }
+    requires prefix { IsPrefix problem.now track.old.prefix }
+    requires room { length track.old.prefix < problem.now.sites }
+    ensures within { IfOk result (λ within. IsTrue within
+        ↔ (nodes_beyond problem.now threshold track.old.prefix ≤ found.old.left)) }
+    ensures visited { IfOk result (λ within. IsTrue within
+        → AreChildrenVisited problem.now threshold track.old.prefix found.old found.new) }
+    ensures kept { IfOk result (λ within. IsTrue within → track.new ≡ track.old) }
+{
+    if !visit_child(alloc, problem, threshold, track, Charge::Neg, found)? {
+        return Ok(false);
+    }
+    if !visit_child(alloc, problem, threshold, track, Charge::Neutral, found)? {
+        return Ok(false);
+    }
+    if problem.base() == 2 {
+        return Ok(true);
+    }
+    visit_child(alloc, problem, threshold, track, Charge::Pos, found)
+}
+
+/// Enters the members of the tree that begin with the prefix, as far as there are not too many:
+/// whether there were not.
+#[cycle(search)]
+fn visit(
+    alloc: Global,
+    problem: &Problem,
+    threshold: Option<i64>,
+    track: &mut Track,
+    found: &mut Found,
+) -> Result<bool, Memory>
+    requires problem { track.old.problem ≡ problem.now }
+    requires prefix { IsPrefix problem.now track.old.prefix }
+    ensures within { IfOk result (λ within. IsTrue within
+        ↔ (nodes_under problem.now threshold track.old.prefix ≤ found.old.left)) }
+    ensures visited { IfOk result (λ within. IsTrue within
+        → IsVisited problem.now threshold track.old.prefix found.old found.new) }
+    ensures kept { IfOk result (λ within. IsTrue within → track.new ≡ track.old) }
+{
+    if !track.enters(problem, threshold) {
+        return Ok(true);
+    }
+    if found.left == 0 {
+        return Ok(false);
+    }
+    found.left -= 1;
+    if track.len() < problem.sites() {
+        return visit_children(alloc, problem, threshold, track, found);
+    }
+    keep_leaf(alloc, problem, threshold, track, found)?;
+    Ok(true)
+}
+
+/// Visits the whole tree.
+fn visit_all(
+    alloc: Global,
+    problem: &Problem,
+    threshold: Option<i64>,
+    found: &mut Found,
+) -> Result<bool, Memory>
+    ensures within { IfOk result (λ within. IsTrue within
+        ↔ (nodes_under problem.now threshold [] ≤ found.old.left)) }
+    ensures visited { IfOk result (λ within. IsTrue within
+        → IsVisited problem.now threshold [] found.old found.new) }
+{
+    let mut track = Track::new(alloc, problem)?;
+    visit(alloc, problem, threshold, &mut track, found)
+}
+
+/// The leaves of the tree, or None where it has more nodes than the limit.
+fn leaves_within(
+    alloc: Global,
+    problem: &Problem,
+    bound: Option<i64>,
+    limit: u64,
+) -> Result<Option<LeafList>, Memory>
+    ensures { IfOk result (λ o. MatchOption o (limit < node_count problem.now bound)
+        (IsListed problem.now bound limit)) }
+{
+    nodes_are_tested();
+    let mut found = Found {
+        lists: Vec::new(alloc),
+        left: limit,
+    };
+    if !visit_all(alloc, problem, bound, &mut found)? {
+        return Ok(None);
+    }
+    Ok(Some(LeafList {
+        lists: found.lists,
+        nodes: limit - found.left,
+    }))
+}
+
+/// In order, the possibly valid lists in the search tree under a threshold, in 10^-12 V, or under
+/// none, with the number of its nodes (docs/MODEL.md, "Prefixes"). At most `limit` nodes are
+/// entered.
+pub fn leaves(alloc: Global, problem: &Problem, bound: Option<i64>, limit: u64) -> LeavesAnswer
+    requires limit { (1 ≤ limit) × (limit ≤ MAX_NODES) }
+    ensures { IsLeavesAnswer problem.now bound limit result }
+{
+    match leaves_within(alloc, problem, bound, limit) {
+        Ok(Some(list)) => LeavesAnswer::Lists(list),
+        Ok(None) => LeavesAnswer::Budget,
+        Err(_) => LeavesAnswer::Memory,
+    }
+}
