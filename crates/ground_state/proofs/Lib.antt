@@ -1,6 +1,5 @@
-pub mod OwnMarkLemmas
-pub mod Numerals
-pub mod Collecting
-pub mod Gaps
-pub mod Keeping
-pub mod CandidateLemmas
+pub mod Bounds
+pub mod KeptLeaves
+pub mod OneAnswer
+pub mod StandardFacts
+mod Refusals

@@ -1,3 +1,5 @@
-pub mod OwnMarks
-pub mod Candidates
+pub use Rattle.charge_model.specs.GroundList
+pub use Rattle.charge_model.specs.Tree
+pub use Rattle.candidate_marks.specs.Found
 pub mod Answer
+pub mod Kept

@@ -1,13 +1,9 @@
-//! The ground list of a problem with its marks, by going through all charge lists.
+//! The ground list of a problem with its marks, by the pruned search.
 #![tactic(auto)]
 
-mod candidate;
-mod ends;
-mod marks;
-mod own_mark;
-mod rivals;
+mod keeping;
+pub mod laws;
 mod solving;
-mod validity;
 
-pub use prune_certificate::{Deciding, Entry, GroundList, Mark};
+pub use prune_certificate::{Deciding, Entry, GroundList, Mark, Solved};
 pub use solving::{SolveAnswer, solve};

@@ -1,0 +1,85 @@
+// The lists that may beat others.
+ghost use Rattle.std.specs.Prelude.{◌<◌, ◌≤ℤ◌, length, IfOk, All, MatchBool};
+ghost use Rattle.charge_model.specs.Rules.{IsCertainlyValid};
+ghost use Rattle.candidate_marks.specs.Candidates.{IsWeighed, AreWinners, WinsNothing};
+
+use crate::candidate::{Candidate, candidate_of};
+use crate::ends::begins_below;
+use charge_validity::laws::decided_lists_are_not_certain;
+use charge_validity::own_mark;
+use potential_problem::Problem;
+use prune_certificate::Mark;
+use sidb_units::Memory;
+use std::alloc::Global;
+
+/// A candidate whose least energy is the greatest.
+fn highest(all: &[Candidate]) -> &Candidate
+    requires { 0 < length all.now }
+    ensures { All (λ x. x.span.lo ≤ℤ result.now.span.lo) all.now }
+{
+    let mut highest = &all[0];
+    for candidate in all {
+        if begins_below(&highest.span, &candidate.span) {
+            highest = candidate;
+        }
+    }
+    highest
+}
+
+/// Whether a list is certainly valid and its least energy is below that of another.
+fn may_win(
+    alloc: Global,
+    problem: &Problem,
+    highest: &Candidate,
+    candidate: &Candidate,
+) -> Result<bool, Memory>
+    requires { IsWeighed problem.now candidate.now }
+    ensures { IfOk result (λ b. MatchBool b (IsCertainlyValid problem.now candidate.now.charges)
+        (WinsNothing problem.now highest.now candidate.now)) }
+{
+    if !begins_below(&candidate.span, &highest.span) {
+        return Ok(false);
+    }
+    decided_lists_are_not_certain();
+    match own_mark(alloc, problem, &candidate.charges)? {
+        Mark::Unresolved(_) => Ok(false),
+        Mark::Certain => Ok(true),
+    }
+}
+
+/// The certainly valid ones of these lists, without some that beat none of them.
+fn winners_below(
+    alloc: Global,
+    problem: &Problem,
+    highest: &Candidate,
+    all: &[Candidate],
+) -> Result<Vec<Candidate>, Memory>
+    requires all { All (IsWeighed problem.now) all.now }
+    requires highest { All (λ x. x.span.lo ≤ℤ highest.now.span.lo) all.now }
+    ensures { IfOk result (λ v. AreWinners problem.now all.now v.items) }
+{
+    let mut winners = Vec::new(alloc);
+    for candidate in all {
+        let wins = may_win(alloc, problem, highest, candidate)?;
+        if wins {
+            let winner = candidate_of(alloc, problem, &candidate.charges)?;
+            winners.push(winner)?;
+        }
+    }
+    Ok(winners)
+}
+
+/// The certainly valid ones of these lists, without some that beat none of them.
+pub fn winners_among(
+    alloc: Global,
+    problem: &Problem,
+    all: &[Candidate],
+) -> Result<Vec<Candidate>, Memory>
+    requires { All (IsWeighed problem.now) all.now }
+    ensures { IfOk result (λ v. AreWinners problem.now all.now v.items) }
+{
+    if all.is_empty() {
+        return Ok(Vec::new(alloc));
+    }
+    winners_below(alloc, problem, highest(all), all)
+}

@@ -1,0 +1,3 @@
+pub mod OwnMarkLemmas
+pub mod StandardFacts
+mod Refusals

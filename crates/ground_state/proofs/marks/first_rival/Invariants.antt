@@ -1,6 +1,0 @@
-use Rattle.std.specs.List.{AllWithin}
-use Rattle.ground_state.specs.Candidates.{IsNotAbove}
-use Rattle.ground_state.proofs.marks.first_rival.Given as goal
-
-abbrev pub invariant-loop-j : goal.invariant-loop-j
-invariant-loop-j l = AllWithin (λ y. IsNotAbove l.problem l.candidate.charges y.charges) l.list 0 l.j

@@ -1,0 +1,32 @@
+//! That for each problem and limit there is one answer.
+ghost use Rattle.std.specs.Prelude.{◌≡◌, ◌≤◌, ℕ, List, length};
+ghost use Rattle.charge_model.specs.Problem.{Problem};
+ghost use Rattle.charge_model.specs.GroundList.{Entry};
+ghost use Rattle.prune_certificate.specs.declared.ground_list.Solved.{Solved};
+ghost use Rattle.sidb_units.specs.declared.TheConstants.{MAX_ENTRIES};
+ghost use Rattle.ground_state.specs.Answer.{IsListedWithin, IsTooLongWithin, IsWithinBudget, IsOverBudget, IsSolution};
+
+use ground_list_laws::laws::{one_ground_list, one_marked_ground_list};
+use prefix_laws::laws::one_least_certain;
+
+/// Within the budget a problem has one ground list with its marks, or one that is too long, and
+/// not both; and the budget suffices or does not, and not both.
+pub fn one_answer()
+    ensures list { (p : Problem) (limit : ℕ) (es fs : List Entry)
+        → IsListedWithin p limit es → IsListedWithin p limit fs → es ≡ fs }
+    ensures length { (p : Problem) (limit : ℕ) (es : List Entry)
+        → IsListedWithin p limit es → IsTooLongWithin p limit → ⊥ }
+    ensures budget { (p : Problem) (limit : ℕ)
+        → IsWithinBudget p limit → IsOverBudget p limit → ⊥ }
+{
+    one_ground_list();
+    one_marked_ground_list();
+    one_least_certain();
+}
+
+/// The list of a solution is the problem's, within the budget.
+#[tactic(auto, using(crate::proofs::OneAnswer::solution_is_listed))]
+pub fn solutions_are_listed()
+    ensures { (p : Problem) (limit : ℕ) (s : Solved) → IsSolution p limit s
+        → length s.list ≤ MAX_ENTRIES → IsListedWithin p limit s.list }
+{}

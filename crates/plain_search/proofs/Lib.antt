@@ -1,0 +1,4 @@
+pub mod Numerals
+pub mod Collecting
+pub mod Gathering
+mod Refusals

@@ -1,0 +1,141 @@
+ghost use Rattle.std.specs.Prelude.{◌≤◌};
+ghost use Rattle.sidb_units.specs.declared.TheConstants.{MAX_NODES};
+
+use entry_lines::entry_line;
+use ground_state::{SolveAnswer, solve};
+use plain_search::plain_solve;
+use potential_problem::Problem;
+use potential_table::read_table;
+use prune_certificate::GroundList;
+use sidb_io::NoGate;
+use sidb_units::{MAX_NODES, Memory};
+use std::alloc::Global;
+use std::test::Fail;
+use std::thread::Threads;
+
+/// Two sites with a wide span: no list is certainly valid.
+const WIDE_PAIR: &str =
+    "sidb-table 1\nsites 2\nbase 3\nmu -2 -590000000002\nclass 1 3\npair 0 1 0\nend\n";
+
+/// Tables of a few sites, among them wide spans, ties, base 2 and fixed charges.
+const TABLES: [&str; 10] = [
+    WIDE_PAIR,
+    "sidb-table 1\nsites 0\nbase 3\nmu -1 -2\nend\n",
+    "sidb-table 1\nsites 3\nbase 3\nmu -60 -1000\nclass 50 50\nclass 50 52\nclass 51 51\n\
+     pair 0 1 0\npair 0 2 1\npair 1 2 2\nend\n",
+    "sidb-table 1\nsites 4\nbase 3\nmu -50 -1000\n\
+     class 100 100\nclass 12 12\nclass 9 11\nclass 10 10\n\
+     pair 0 1 0\npair 0 2 1\npair 0 3 2\npair 1 2 3\npair 1 3 1\npair 2 3 0\nend\n",
+    "sidb-table 1\nsites 3\nbase 3\nmu -320000000000 -910000000000\n\
+     class 620124254312 620124254313\nclass 287140799939 287140799940\n\
+     pair 0 1 0\npair 0 2 1\npair 1 2 0\nend\n",
+    "sidb-table 1\nsites 3\nbase 2\nmu -320 -910\nclass 600 640\nclass 270 330\n\
+     pair 0 1 0\npair 0 2 1\npair 1 2 0\nend\n",
+    "sidb-table 1\nsites 4\nbase 3\nmu -320 -910\nclass 560 680\nclass 250 350\nclass 130 180\n\
+     pair 0 1 0\npair 0 2 1\npair 0 3 2\npair 1 2 0\npair 1 3 1\npair 2 3 0\nend\n",
+    "sidb-table 1\nsites 6\nbase 3\nmu -320 -910\n\
+     class 280 294\nclass 88 94\nclass 53 58\nclass 36 39\nclass 21 23\nclass 16 17\nclass 12 13\n\
+     pair 0 1 0\npair 0 2 2\npair 0 3 3\npair 0 4 5\npair 0 5 6\npair 1 2 1\npair 1 3 2\n\
+     pair 1 4 4\npair 1 5 5\npair 2 3 0\npair 2 4 2\npair 2 5 3\npair 3 4 1\npair 3 5 2\n\
+     pair 4 5 0\nend\n",
+    "sidb-table 1\nsites 5\nbase 3\nmu -50 -300\nclass 0 60\nclass 40 90\n\
+     pair 0 1 0\npair 0 2 1\npair 0 3 0\npair 0 4 1\npair 1 2 0\npair 1 3 1\npair 1 4 0\n\
+     pair 2 3 0\npair 2 4 1\npair 3 4 0\nend\n",
+    "sidb-table 2\nsites 4\nfixed 2\nbase 3\nmu -320 -910\ncharge -1\ncharge 2\n\
+     class 280 294\nclass 88 94\nclass 53 58\nclass 36 39\nclass 21 23\nclass 16 17\n\
+     pair 0 1 0\npair 0 2 2\npair 0 3 3\npair 1 2 1\npair 1 3 2\npair 2 3 0\n\
+     near 0 0 5\nnear 0 1 4\nnear 1 0 4\nnear 1 1 5\nnear 2 0 2\nnear 2 1 5\n\
+     near 3 0 1\nnear 3 1 5\nend\n",
+];
+
+/// The lines of the entries of a list.
+fn lines_of(alloc: Global, list: &GroundList) -> Result<String, Fail> {
+    let mut text = String::new(alloc);
+    for j in 0..list.len() {
+        let line = entry_line(alloc, list.entry(j))?;
+        text.push_str(&line)?;
+        text.push_str("\n")?;
+    }
+    Ok(text)
+}
+
+/// The entries of the plain program.
+fn by_plain(alloc: Global, problem: &Problem) -> Result<String, Fail> {
+    match plain_solve(alloc, problem)? {
+        Some(list) => lines_of(alloc, &list),
+        None => Ok(String::from_str(alloc, "too long")?),
+    }
+}
+
+/// The entries of the search, or the name of its refusal.
+fn by_search<R: Threads + Sync>(
+    rt: &R,
+    alloc: Global,
+    problem: &Problem,
+    limit: u64,
+) -> Result<String, Fail>
+    requires { (1 ≤ limit) × (limit ≤ MAX_NODES) }
+{
+    match solve(rt, alloc, problem, limit, 1, &NoGate) {
+        SolveAnswer::List(solved) => lines_of(alloc, &solved.list),
+        SolveAnswer::Budget => Ok(String::from_str(alloc, "budget")?),
+        SolveAnswer::ListTooLong => Ok(String::from_str(alloc, "too long")?),
+        SolveAnswer::Memory => Err(Memory)?,
+    }
+}
+
+/// A table text of eight sites that see nothing of each other, with both levels at 0.
+fn zero_table(alloc: Global, base: u64) -> Result<String, Fail> {
+    let mut text = format!(in alloc; "sidb-table 1\nsites 8\nbase {base}\nmu 0 0\nclass 0 0\n")?;
+    for i in 0..8u64 {
+        for j in i + 1..8u64 {
+            let line = format!(in alloc; "pair {i} {j} 0\n")?;
+            text.push_str(&line)?;
+        }
+    }
+    text.push_str("end\n")?;
+    Ok(text)
+}
+
+#[test]
+fn both_give_one_list(rt: HostRuntime) -> Result<(), Fail> {
+    let alloc = rt.alloc();
+    for text in TABLES {
+        let problem = read_table(alloc, text.as_bytes())?;
+        let plain = by_plain(alloc, &problem)?;
+        let found = by_search(&rt, alloc, &problem, MAX_NODES)?;
+        assert_eq!(rt; found.as_str(), plain.as_str(), "{text}");
+    }
+    for base in [2, 3] {
+        let text = zero_table(alloc, base)?;
+        let problem = read_table(alloc, text.as_bytes())?;
+        let plain = by_plain(alloc, &problem)?;
+        let found = by_search(&rt, alloc, &problem, MAX_NODES)?;
+        assert_eq!(rt; found.as_str(), plain.as_str());
+    }
+    Ok(())
+}
+
+/// The tree of the wide pair has six nodes and no bound, that of the zero table 9,841 at bound 0.
+#[test]
+fn limits_count_nodes(rt: HostRuntime) -> Result<(), Fail> {
+    let alloc = rt.alloc();
+    let wide = read_table(alloc, WIDE_PAIR.as_bytes())?;
+    match solve(&rt, alloc, &wide, 6, 1, &NoGate) {
+        SolveAnswer::List(solved) => {
+            assert_eq!(rt; solved.nodes, 6);
+            assert!(rt; solved.bound.is_none());
+            assert_eq!(rt; solved.list.len(), 3);
+        }
+        _ => assert!(rt; false),
+    }
+    let found = by_search(&rt, alloc, &wide, 5)?;
+    assert_eq!(rt; found.as_str(), "budget");
+    let text = zero_table(alloc, 3)?;
+    let zero = read_table(alloc, text.as_bytes())?;
+    let found = by_search(&rt, alloc, &zero, 9841)?;
+    assert_eq!(rt; found.as_str(), "too long");
+    let found = by_search(&rt, alloc, &zero, 9840)?;
+    assert_eq!(rt; found.as_str(), "budget");
+    Ok(())
+}
