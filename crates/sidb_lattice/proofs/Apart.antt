@@ -1,6 +1,6 @@
 -- places of a layout are in range and apart
-use Rattle.std.proofs.Common.{◌≡◌, ◌≢◌, ℕ, ◌+◌, ◌^◌, ◌<◌, ◌≤◌, ℤ, pos, ◌-ℤ◌, w64, to_z, of_z, unsigned_abs, ◌⊎◌, inl, inr, List, length, arith, refl, sym, ap}
-use Rattle.std.specs.Prelude.{All, Contains}
+use Rattle.std.proofs.Common.{◌≡◌, ◌≢◌, ℕ, ◌^◌, ◌<◌, ◌≤◌, ℤ, pos, w64, to_z, of_z, unsigned_abs, inl, inr, length, arith, refl, ap}
+use Rattle.std.specs.Prelude.{All}
 use Rattle.std.proofs.lemmas.Int.{ints, to_z_pos}
 use Rattle.std.proofs.lemmas.List.{length-map}
 use Rattle.std.proofs.lemmas.List.Elements.{All-map, All-get_or, Contains-get_or, Contains-append_left, Contains-append_right}

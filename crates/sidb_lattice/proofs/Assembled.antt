@@ -1,13 +1,13 @@
 -- the classes of a layout from its squared distances
-use Rattle.std.proofs.Common.{◌≡◌, ◌≢◌, ℕ, suc, ◌+◌, ◌-◌, ◌*◌, ◌<◌, ◌≤◌, ◌⊎◌, inl, inr, List, length, get_or, slice_index, slice_get, Some, min, max, arith, refl, sym, ap, ◌∙◌}
+use Rattle.std.proofs.Common.{◌≡◌, ◌≢◌, ℕ, suc, ◌+◌, ◌-◌, ◌*◌, ◌<◌, ◌⊎◌, inl, inr, List, length, get_or, slice_index, slice_get, Some, min, max, arith, refl, sym, ap, ◌∙◌}
 use Rattle.std.specs.Prelude.{All, Contains}
 use Rattle.std.proofs.lemmas.Bool.{cases_order}
 use Rattle.std.proofs.lemmas.List.Elements.{All-get_or, All-contains, Contains-get_or}
 use Rattle.std.proofs.lemmas.Option.{slice_get-get_or}
 use Rattle.charge_model.specs.Problem.{pairs_before}
-use Rattle.sidb_layout.specs.Site.{place_at, places_of_fixes}
+use Rattle.sidb_layout.specs.Site.{place_at}
 use Rattle.sidb_layout.specs.Layout.{Arrangement, IsLayout}
-use Rattle.sidb_lattice.specs.Classes.{Classing, IsClassing, AreClasses, IsBetween, IsDistance, classing_of, class_between, class_near, pair_distance, near_distance}
+use Rattle.sidb_lattice.specs.Classes.{IsClassing, AreClasses, IsBetween, IsDistance, classing_of, class_between, class_near, pair_distance, near_distance}
 use Rattle.sidb_lattice.specs.Measured.{AreAllPairs, AreAllNear, AreRising, ArePlaces}
 use Rattle.sidb_lattice.proofs.Pairs.{pairs_before-le, place_in_order, place_turned, row_within}
 use Rattle.sidb_lattice.proofs.Apart.{squared_distance-turned}

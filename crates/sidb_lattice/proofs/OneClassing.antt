@@ -1,13 +1,15 @@
 -- the list of squared distances of a layout, and its classes, are one alone
-use Rattle.std.proofs.Common.{◌≡◌, ◌↔◌, ℕ, zero, suc, ◌+◌, ◌<◌, ◌≤◌, ◌⊎◌, inl, inr, List, [], ◌∷◌, length, get_or, slice_get, Some, arith, refl, sym, ap, ◌∙◌}
-use Rattle.std.specs.Prelude.{All, AllPairs, Contains}
-use Rattle.std.specs.List.Sorted.{IsStrictlyIncreasing}
+use Rattle.std.proofs.Common.{◌≡◌, ◌≢◌, ◌↔◌, ℕ, zero, suc, ◌+◌, ◌-◌, ◌*◌, ◌<◌, ◌⊎◌, inl, inr, List, [], ◌∷◌, length, get_or, slice_get, slice_index, Some, arith, refl, sym, ap, subst, ◌∙◌}
+use Rattle.std.specs.Prelude.{AllPairs, Contains}
 use Rattle.std.proofs.lemmas.Bool.{cases_order}
 use Rattle.std.proofs.lemmas.List.Elements.{All-contains}
 use Rattle.std.proofs.lemmas.List.Kept.{AllPairs-from_increasing}
 use Rattle.std.proofs.lemmas.Option.{slice_get_within, get_or_from_slice_get}
+use Rattle.charge_model.specs.Problem.{pairs_before}
 use Rattle.sidb_layout.specs.Layout.{Arrangement}
 use Rattle.sidb_lattice.specs.Classes.{Classing, IsClassing, AreClasses, IsBetween, class_between, class_near, pair_distance, near_distance}
+use Rattle.sidb_lattice.proofs.Pairs.{place_in_order}
+use Rattle.sidb_lattice.proofs.SamePlaces.{same_pairs, same_near}
 
 pub equal_classes : (c : Classing) (k m d e : ℕ) → IsClassing c → slice_get c.distances k ≡ Some d
     → slice_get c.distances m ≡ Some e → ((k ≡ m) ↔ (d ≡ e))
@@ -90,3 +92,46 @@ one_list p c e h k =
     same_numbers c.distances e.distances (AllPairs-from_increasing c.distances h.whole.rising) (AllPairs-from_increasing e.distances k.whole.rising)
     (λ d at. in_list p e d k (All-contains (IsBetween p) c.distances d h.used at))
     (λ d at. in_list p c d h (All-contains (IsBetween p) e.distances d k.used at))
+
+-- in one list of distances two places with the same distance are equal
+same_place : (c e : Classing) (k m d : ℕ) → IsClassing c → c.distances ≡ e.distances → slice_get c.distances k ≡ Some d → slice_get e.distances m ≡ Some d → k ≡ m
+same_place c e k m d is same at_k at_m = (equal_classes c k m d d is at_k (subst (λ ds. slice_get ds m ≡ Some d) (sym same) at_m)).1 refl
+
+in_order : (c : Classing) (i j : ℕ) → i < j → class_between c i j ≡ slice_index c.pair_classes (pairs_before c.sites i + (j - suc i))
+unfolding class_between
+in_order c i j h = ap (λ k. slice_index c.pair_classes k) (sym (place_in_order c.sites i j h))
+
+by_site : (c : Classing) (i a : ℕ) → class_near c i a ≡ slice_index c.near_classes (i * c.fixes + a)
+unfolding class_near
+by_site c i a = refl
+
+rebuilt : (c e : Classing) → c.sites ≡ e.sites → c.fixes ≡ e.fixes → c.distances ≡ e.distances → c.pair_classes ≡ e.pair_classes → c.near_classes ≡ e.near_classes → c ≡ e
+rebuilt c e sites fixes distances pairs nears =
+    ap (λ x. record c { sites = x }) sites
+    ∙ ap (λ x. record c { sites = e.sites; fixes = x }) fixes
+    ∙ ap (λ x. record e { distances = x; pair_classes = c.pair_classes; near_classes = c.near_classes }) distances
+    ∙ ap (λ x. record e { pair_classes = x; near_classes = c.near_classes }) pairs
+    ∙ ap (λ x. record e { near_classes = x }) nears
+
+-- a layout has one list of classes
+pub one_classing : (p : Arrangement) (c e : Classing) → AreClasses p c → AreClasses p e → c ≡ e
+one_classing p c e h k =
+    let sites : c.sites ≡ e.sites = h.sites ∙ sym k.sites in
+    let fixes : c.fixes ≡ e.fixes = h.fixes ∙ sym k.fixes in
+    let distances = one_list p c e h k in
+    let pairs = same_pairs c.sites c.pair_classes e.pair_classes h.whole.class_per_pair (k.whole.class_per_pair ∙ ap (λ n. pairs_before n n) (sym sites)) (λ i j order within.
+    let distinct : i ≢ j = omega (arith, order) in
+    let first : i < length p.sites = omega (arith, order, within, h.sites) in
+    let second : j < length p.sites = omega (arith, within, h.sites) in
+    sym (in_order c i j order)
+    ∙ same_place c e (class_between c i j) (class_between e i j) (pair_distance p i j) h.whole distances (h.pairs i j distinct first second) (k.pairs i j distinct first second)
+    ∙ in_order e i j order
+    ∙ ap (λ n. slice_index e.pair_classes (pairs_before n i + (j - suc i))) (sym sites)) in
+    let nears = same_near c.sites c.fixes c.near_classes e.near_classes h.whole.class_per_near (k.whole.class_per_near ∙ ap (λ n. n * e.fixes) (sym sites) ∙ ap (λ f. c.sites * f) (sym fixes)) (λ i a site fix.
+    let first : i < length p.sites = omega (arith, site, h.sites) in
+    let second : a < length p.fixes = omega (arith, fix, h.fixes) in
+    sym (by_site c i a)
+    ∙ same_place c e (class_near c i a) (class_near e i a) (near_distance p i a) h.whole distances (h.nears i a first second) (k.nears i a first second)
+    ∙ by_site e i a
+    ∙ ap (λ f. slice_index e.near_classes (i * f + a)) (sym fixes)) in
+    rebuilt c e sites fixes distances pairs nears

@@ -1,5 +1,5 @@
 -- Each definition refuses a wrong value.
-use Rattle.std.proofs.Common.{◌≡◌, ℕ, ◌<◌, ◌^◌, [], ◌∷◌, Option, Some, unwrap_or, ap, arith, lit<}
+use Rattle.std.proofs.Common.{◌≡◌, ℕ, ◌^◌, [], ◌∷◌, Option, Some, unwrap_or, ap, arith, lit<}
 use Rattle.sidb_layout.specs.Lattice.{squared_distance}
 use Rattle.sidb_lattice.specs.Classes.{IsClassing, AreClasses, IsDistance, classing_of, class_between}
 use Rattle.sidb_lattice.proofs.StandardFacts.{three}

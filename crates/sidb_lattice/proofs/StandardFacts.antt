@@ -1,11 +1,11 @@
 -- The classes of three neighbours in a row, worked by hand: two pairs 3.84 Å apart, and one 7.68 Å.
-use Rattle.std.proofs.Common.{◌≡◌, ◌≢◌, ℕ, zero, suc, ◌+◌, ◌<◌, pos, inl, inr, List, [], ◌∷◌, slice_get, slice_index, Some, refl, arith, lit≤, lit<}
+use Rattle.std.proofs.Common.{◌≡◌, ◌≢◌, ℕ, zero, suc, ◌+◌, ◌<◌, pos, inl, List, [], ◌∷◌, slice_get, slice_index, Some, refl, arith, lit≤, lit<}
 use Rattle.std.specs.Prelude.{All}
 use Rattle.std.proofs.lemmas.List.Elements.{All-nil, All-cons}
 use Rattle.sidb_layout.specs.declared.site.Site.{Site}
 use Rattle.sidb_layout.specs.Lattice.{silicon, squared_distance}
 use Rattle.sidb_layout.specs.Layout.{Arrangement, arrangement_of}
-use Rattle.sidb_lattice.specs.Classes.{Classing, IsClassing, AreClasses, IsBetween, IsDistance, classing_of, class_between, class_near, pair_distance}
+use Rattle.sidb_lattice.specs.Classes.{Classing, IsClassing, AreClasses, IsBetween, IsDistance, classing_of, class_between, pair_distance}
 
 abbrev pub column : ℕ → Site
 column n = record { n = pos n; m = pos 0; l = pos 0 }

@@ -15,3 +15,9 @@ pub fn one_list_of_distances()
     ensures { (p : Arrangement) (c e : Classing) → AreClasses p c → AreClasses p e
         → c.distances ≡ e.distances }
 {}
+
+/// A layout has one list of classes.
+#[tactic(auto, using(crate::proofs::OneClassing::one_classing))]
+pub fn one_classing()
+    ensures { (p : Arrangement) (c e : Classing) → AreClasses p c → AreClasses p e → c ≡ e }
+{}

@@ -1,4 +1,3 @@
-use Rattle.std.proofs.Common.{arith}
 use Rattle.sidb_lattice.proofs.Apart.{site_in_range, fix_in_range, near_apart, cast_read}
 use Rattle.sidb_lattice.proofs.measuring.near_distance.Goals as goal
 
