@@ -1,0 +1,10 @@
+pub mod Basics
+pub mod Betweens
+pub mod Turning
+pub mod Reading
+pub mod Once
+pub mod Causes
+pub mod Endings
+pub mod Outcomes
+pub mod StandardFacts
+pub mod Refusals

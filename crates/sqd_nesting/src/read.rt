@@ -1,0 +1,100 @@
+ghost use Rattle.std.specs.Prelude.{◌≡◌, ◌≤◌, ◌<◌, ◌+◌, ◌^◌, take, drop, length, IfOk, IfErr};
+ghost use Rattle.sqd_nesting.specs.Views.{nest_of, IsNext, IsStep, IsPassed, IsFaultOrMemory};
+
+use crate::ahead::{Ahead, next_mark};
+use crate::fault::MarkFault;
+use crate::nest::{Nesting, turn, unclosed};
+use sqd_marks::Kind;
+
+/// A mark of a text: the place of its `<`, its form and its bytes.
+#[derive(Clone, Copy)]
+pub struct Found<'a> {
+    /// Counted in bytes from 0.
+    pub at: usize,
+    pub kind: Kind,
+    /// From `<` to `>`.
+    pub bytes: &'a [u8],
+}
+
+/// What is left of a text, from a place on, and what is open there.
+#[derive(Drop)]
+pub struct Reader<'a> {
+    pub at: usize,
+    pub left: &'a [u8],
+    pub nesting: Nesting<'a>,
+}
+
+/// A mark, and what is left behind it.
+#[derive(Drop)]
+pub struct Passed<'a> {
+    pub found: Found<'a>,
+    pub behind: Reader<'a>,
+}
+
+// A mark, and the bytes behind it.
+#[derive(Clone, Copy)]
+struct Cut<'a> {
+    bytes: &'a [u8],
+    behind: &'a [u8],
+}
+
+fn cut_at(left: &[u8], gap: usize, len: usize) -> Cut
+    requires { gap + len ≤ length left.now }
+    ensures bytes { result.bytes.now ≡ take len (drop gap left.now) }
+    ensures behind { result.behind.now ≡ drop len (drop gap left.now) }
+{
+    let rest = &left[gap..];
+    Cut {
+        bytes: &rest[..len],
+        behind: &rest[len..],
+    }
+}
+
+// Passes the mark that is ahead.
+fn pass<'a>(reader: Reader<'a>, ahead: Ahead) -> Result<Passed<'a>, MarkFault>
+    requires room { reader.at + length reader.left.now < 2 ^ 64 }
+    requires next { IsNext (nest_of reader.nesting) reader.left.now ahead }
+    ensures ok { IfOk result (IsPassed reader.entry.at (nest_of reader.entry.nesting)
+        reader.entry.left.now) }
+    ensures err { IfErr result (IsFaultOrMemory reader.entry.at (nest_of reader.entry.nesting)
+        reader.entry.left.now) }
+{
+    let cut = cut_at(reader.left, ahead.gap, ahead.whole.len);
+    let here = reader.at + ahead.gap;
+    match turn(reader.nesting, here, ahead.whole.kind, cut.bytes) {
+        Err(fault) => Err(fault),
+        Ok(nesting) => Ok(Passed {
+            found: Found {
+                at: here,
+                kind: ahead.whole.kind,
+                bytes: cut.bytes,
+            },
+            behind: Reader {
+                at: here + ahead.whole.len,
+                left: cut.behind,
+                nesting,
+            },
+        }),
+    }
+}
+
+/// The next mark, or that the text is whole, or its fault.
+pub fn next_item<'a>(reader: Reader<'a>) -> Result<Option<Passed<'a>>, MarkFault>
+    requires { reader.at + length reader.left.now < 2 ^ 64 }
+    ensures ok { IfOk result (IsStep reader.entry.at (nest_of reader.entry.nesting)
+        reader.entry.left.now) }
+    ensures err { IfErr result (IsFaultOrMemory reader.entry.at (nest_of reader.entry.nesting)
+        reader.entry.left.now) }
+{
+    match next_mark(reader.left, reader.at, &reader.nesting) {
+        Err(fault) => Err(fault),
+        Ok(None) => match unclosed(reader.nesting) {
+            None => Ok(None),
+            Some(open) => Err(MarkFault::NotClosed(open)),
+        },
+        Ok(Some(ahead)) => match pass(reader, ahead) {
+            Err(fault) => Err(fault),
+            Ok(passed) => Ok(Some(passed)),
+        },
+    }
+}

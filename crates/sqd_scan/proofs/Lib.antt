@@ -1,0 +1,10 @@
+pub mod Runs
+pub mod Complete
+pub mod Sound
+pub mod Tags
+pub mod Passing
+pub mod Fronts
+pub mod Unique
+pub mod Decided
+pub mod StandardFacts
+pub mod Refusals
