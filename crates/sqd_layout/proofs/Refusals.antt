@@ -1,4 +1,4 @@
--- what is no number, no line, no sites text, and no fault
+-- what is no line, no sites text, no dot and no fault
 use Rattle.std.proofs.Common.{◌≡◌, refl, ℕ, pos, List, [], ◌∷◌, ◌++◌, None, Some, arith}
 use Rattle.std.specs.Prelude.{codes}
 use Rattle.sidb_layout.specs.declared.site.Site.{Site}
@@ -8,21 +8,12 @@ use Rattle.sidb_layout.specs.Layout.{Arrangement}
 use Rattle.sqd_layout.specs.declared.sites.line.Vectors.{Vectors}
 use Rattle.sqd_layout.specs.declared.sites.line.SitesLine.{SitesLine}
 use Rattle.sqd_layout.specs.declared.sites.line.SitesLine.TheVariants.{Empty, Place, Lattice}
-use Rattle.sqd_layout.specs.declared.fault.SqdFault.TheVariants.{BadMark, Memory, BadLine}
-use Rattle.sqd_layout.specs.SitesWords.{number_in}
+use Rattle.sqd_layout.specs.declared.fault.SqdFault.TheVariants.{BadMark, Memory, BadLine, TooClose}
+use Rattle.sqd_dots.specs.declared.drawing.Dot.{Dot}
+use Rattle.sqd_layout.specs.DotsFaults.{BeginsAt, IsDotsFault}
 use Rattle.sqd_layout.specs.SitesLines.{line_in}
 use Rattle.sqd_layout.specs.SitesFaults.{AreFine, IsLineInRange, IsLatticeOf, IsFirstClash, IsSitesText, IsSitesFault}
 use Rattle.sqd_layout.proofs.FineLines.{bad_none}
-
--- no numbers
-plus : number_in (codes "+1") ≡ None
-plus = refl
-
-ten_digits : number_in (codes "1234567890") ≡ None
-ten_digits = refl
-
-minus_alone : number_in (codes "-") ≡ None
-minus_alone = refl
 
 -- no lines
 two_returns : line_in (codes "0 0 0" ++ 13 ∷ 13 ∷ []) ≡ None
@@ -66,3 +57,16 @@ no_mark text at h = h.1
 
 no_memory : (text : List ℕ) → IsSitesFault text Memory → ⊥
 no_memory text h = h.1
+
+-- no dots' places and faults
+abbrev one_dot : List Dot
+one_dot = record { at = 7; site = record { n = pos 0; m = pos 0; l = pos 0 } } ∷ []
+
+other_byte : BeginsAt one_dot 0 8 → ⊥
+other_byte h = cc h
+
+no_second_dot : BeginsAt one_dot 1 7 → ⊥
+no_second_dot h = h
+
+never_too_close : IsDotsFault one_dot (TooClose 7 7) → ⊥
+never_too_close h = h

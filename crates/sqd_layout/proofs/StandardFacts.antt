@@ -1,5 +1,5 @@
--- texts worked by hand, their lines, layouts and faults
-use Rattle.std.proofs.Common.{◌≡◌, refl, ℕ, pos, negsuc, List, [], ◌∷◌, ◌++◌, Option, None, Some, inl, arith}
+-- texts worked by hand, their lines, dots, layouts and faults
+use Rattle.std.proofs.Common.{◌≡◌, refl, ℕ, pos, negsuc, List, [], ◌∷◌, ◌++◌, Option, None, Some, inl, inr, true, arith}
 use Rattle.std.specs.Prelude.{codes, IsSome}
 use Rattle.std.proofs.lemmas.List.Elements.{All-nil, All-cons}
 use Rattle.std.proofs.lemmas.List.Sorted.{IsPermutation-refl}
@@ -7,24 +7,21 @@ use Rattle.sidb_layout.specs.declared.site.Site.{Site}
 use Rattle.sidb_layout.specs.Site.{IsInRange, IsFixInRange}
 use Rattle.sidb_layout.specs.Lattice.{silicon}
 use Rattle.sidb_layout.specs.Layout.{arrangement_of}
-use Rattle.sidb_layout.specs.Refusal.{IsMadeOf}
+use Rattle.sidb_layout.specs.declared.fault.LayoutFault.{LayoutFault}
+use Rattle.sidb_layout.specs.declared.fault.LayoutFault.TheVariants as refusals
+use Rattle.sidb_layout.specs.Refusal.{IsMadeOf, IsRefusal}
+use Rattle.sqd_marks.specs.Marks.{Tag, empty}
+use Rattle.sqd_nesting.specs.Texts.{Item, IsWhole}
+use Rattle.sqd_elements.specs.Elements.{element_at}
+use Rattle.sqd_dots.specs.Drawings.{IsDrawing}
+use Rattle.sqd_dots.specs.declared.drawing.Dot.{Dot}
+use Rattle.sqd_layout.specs.DotsFaults.{IsDotsFault, IsSqdText}
 use Rattle.sqd_layout.specs.declared.sites.line.SitesLine.{SitesLine}
 use Rattle.sqd_layout.specs.declared.sites.line.SitesLine.TheVariants.{Empty, Place, Charge}
 use Rattle.sqd_layout.specs.declared.fault.SqdFault.TheVariants.{BadLine, Duplicate}
-use Rattle.sqd_layout.specs.SitesWords.{number_in}
 use Rattle.sqd_layout.specs.SitesLines.{line_in, lines_of}
 use Rattle.sqd_layout.specs.SitesFaults.{AreFine, IsLineInRange, IsSitesText, IsSitesFault}
 use Rattle.sqd_layout.proofs.FineLines.{bad_none}
-
--- numbers
-leading_zeros : number_in (codes "007") ≡ Some (pos 7)
-leading_zeros = refl
-
-below_zero : number_in (codes "-000000012") ≡ Some (negsuc 11)
-below_zero = refl
-
-minus_zero : number_in (codes "-0") ≡ Some (pos 0)
-minus_zero = refl
 
 -- lines, also behind a carriage return, a tab and spaces
 abbrev at_zero : Site
@@ -129,3 +126,72 @@ here_twice =
         ),
       ),
     )
+
+-- two dots with one site
+abbrev dot : ℕ → Dot
+dot at = record { at = at; site = at_zero }
+
+dots_twice : IsDotsFault (dot 7 ∷ dot 51 ∷ []) (Duplicate 7 51)
+dots_twice =
+    let in_range : IsInRange at_zero = record { column = omega arith; row = omega arith; atom = inl refl } in (
+      0,
+      refl,
+      (
+        1,
+        refl,
+        (
+          record {
+            in_range = record { all_sites = All-cons IsInRange at_zero (at_zero ∷ []) in_range (All-cons IsInRange at_zero [] in_range (All-nil IsInRange)); all_fixes = All-nil IsFixInRange };
+            few_sites = omega arith;
+            few_fixes = omega arith;
+          },
+          record {
+            within = omega arith;
+            earliest = record { before = omega arith; related = refl; earliest = λ h before. absurd (omega arith) };
+            first = λ h k before within. absurd (omega arith);
+          },
+        ),
+      ),
+    )
+
+-- `<siqad/>` draws the layout without sites
+abbrev root : Tag
+root = record { name = codes "siqad"; attributes = []; after = [] }
+
+abbrev only_root : Item
+only_root = record { text = []; mark = empty root }
+
+whole : IsWhole (codes "<siqad/>") (only_root ∷ [])
+whole = record {
+  nest = record { opened = []; rooted = true };
+  rest = [];
+  begins = record {
+    is = refl;
+    valid = (record { text = tt; mark = record { name = (refl, (refl, (refl, (refl, (refl, tt))))); attributes = tt; after = tt } }, tt);
+    nested = (record { opened = []; rooted = true }, record { quiet = λ outside. tt; turns = (λ outside. refl, record { opened = refl; rooted = refl }) }, refl);
+  };
+  closed = refl;
+  blank = tt;
+}
+
+draws_nothing : IsDrawing (codes "<siqad/>") [] 0
+draws_nothing = record {
+  elements = element_at 0 [] root [] ∷ [];
+  read = record { items = only_root ∷ []; whole = whole; are = refl };
+  siqad = refl;
+  each_has_a_site = refl;
+  drawn = refl;
+  counted = refl;
+}
+
+none_refused : (refusal : LayoutFault) → IsRefusal silicon [] [] refusal → ⊥
+none_refused (refusals.OutOfRange i) (inl h) = h.outside
+none_refused (refusals.OutOfRange i) (inr h) = h.3.outside
+none_refused refusals.TooMany h = absurd (omega (arith, h.1))
+none_refused refusals.TooManyFixes h = absurd (omega (arith, h.2))
+none_refused (refusals.Duplicate i j) h = absurd (omega (arith, h.1.within))
+none_refused (refusals.TooClose i j) h = absurd (omega (arith, h.2.within))
+none_refused refusals.Memory h = h
+
+drawn_layout : IsSqdText (codes "<siqad/>") (arrangement_of silicon [] []) 0
+drawn_layout = record { dots = []; drawing = draws_nothing; unrefused = none_refused; made = no_sites }

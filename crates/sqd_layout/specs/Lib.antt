@@ -2,3 +2,4 @@ pub mod SitesWords
 pub mod SitesLines
 pub mod SitesFaults
 pub mod SitesClash
+pub mod DotsFaults

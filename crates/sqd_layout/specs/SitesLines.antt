@@ -6,12 +6,13 @@ use Rattle.std.specs.Str.{bytes_eq}
 use Rattle.std.specs.Str.Lines.{strip_carriage_return}
 use Rattle.text_rows.specs.Rows.{lines}
 use Rattle.sidb_layout.specs.declared.site.Site.{Site}
+use Rattle.sqd_elements.specs.Numbers.{number_in}
 use Rattle.sidb_layout.specs.declared.site.Fix.{Fix}
 use Rattle.sqd_layout.specs.declared.sites.line.Vector.{Vector}
 use Rattle.sqd_layout.specs.declared.sites.line.Vectors.{Vectors}
 use Rattle.sqd_layout.specs.declared.sites.line.SitesLine.{SitesLine}
 use Rattle.sqd_layout.specs.declared.sites.line.SitesLine.TheVariants.{Empty, Place, Charge, Lattice}
-use Rattle.sqd_layout.specs.SitesWords.{words, number_in}
+use Rattle.sqd_layout.specs.SitesWords.{words}
 
 -- the place of three numbers, where all are there
 abbrev pub place_from : Option ℤ → Option ℤ → Option ℤ → Option Site

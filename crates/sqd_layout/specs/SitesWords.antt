@@ -1,8 +1,6 @@
--- the words of a line of a sites text, and the whole numbers that they are
-use Rattle.std.specs.Prelude.{ℕ, ◌==◌, nat_lt, ℤ, pos, neg_ℤ, Bool, not, ◌&&◌, ◌||◌, cond, List, [], ◌∷◌, length, filter, Option, None, Some, option_map}
-use Rattle.std.specs.Char.{is_ascii_digit}
-use Rattle.std.specs.List.{slice_split, list_all}
-use Rattle.std.specs.Str.Parse.{digits_value}
+-- the words of a line of a sites text
+use Rattle.std.specs.Prelude.{ℕ, ◌==◌, Bool, not, ◌||◌, List, length, filter}
+use Rattle.std.specs.List.{slice_split}
 
 -- whether the byte is a space or a tab
 abbrev pub is_gap : ℕ → Bool
@@ -11,19 +9,3 @@ is_gap b = b == 32 || b == 9
 -- the words of a line: what stands between its spaces and tabs
 abbrev pub words : List ℕ → List (List ℕ)
 words line = filter (λ w. not (length w == 0)) (slice_split is_gap line)
-
--- whether these are one to nine digits
-abbrev pub are_digits : List ℕ → Bool
-are_digits bytes =
-    list_all is_ascii_digit bytes && nat_lt 0 (length bytes) && nat_lt (length bytes) 10
-
--- the number that one to nine digits are
-abbrev pub magnitude_in : List ℕ → Option ℕ
-magnitude_in bytes = cond (are_digits bytes) (Some (digits_value 10 bytes)) None
-
--- the whole number that a word is: an optional `-` and one to nine digits
-abbrev pub number_in : List ℕ → Option ℤ
-number_in [] = None
-number_in (b ∷ bytes) = cond (b == 45)
-    (option_map (λ n. neg_ℤ (pos n)) (magnitude_in bytes))
-    (option_map pos (magnitude_in (b ∷ bytes)))

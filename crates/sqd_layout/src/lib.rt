@@ -5,10 +5,12 @@ mod fault;
 mod found;
 pub mod laws;
 mod sites;
+mod sqd;
 
 pub use fault::SqdFault;
 pub use found::Found;
 pub use sites::read_sites;
+pub use sqd::read_sqd;
 
 #[cfg(test)]
 mod tests;

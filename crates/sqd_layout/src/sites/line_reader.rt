@@ -1,11 +1,11 @@
 // A line of a sites text out of its words.
 ghost use Rattle.std.specs.Prelude.{◌≡◌, ◌==◌, ◌∷◌, [], map, slice_index};
-ghost use Rattle.sqd_layout.specs.SitesWords.{number_in};
+ghost use Rattle.sqd_elements.specs.Numbers.{number_in};
 ghost use Rattle.sqd_layout.specs.SitesLines.{place_from, charge_from, vector_from, vectors_from, content_from, lattice_from, line_from};
 
 use super::line::{SitesLine, Vector, Vectors};
-use super::words::number_of;
 use sidb_layout::{Fix, Site};
+use sqd_elements::number_of;
 
 /// Whether a comment begins with this word.
 fn is_comment(word: &[u8]) -> bool

@@ -1,16 +1,10 @@
-// The words of a line, and the whole numbers that they are.
-ghost use Rattle.std.specs.Prelude.{◌≡◌, ◌<◌, IsTrue, length, map, IfOk};
-ghost use Rattle.std.specs.Char.{is_ascii_digit};
-ghost use Rattle.std.specs.List.{list_all};
+// The words of a line.
+ghost use Rattle.std.specs.Prelude.{◌≡◌, map, IfOk};
 ghost use Rattle.std.specs.Str.Lines.{strip_carriage_return};
-ghost use Rattle.std.specs.Str.Parse.{digits_value};
-ghost use Rattle.sqd_layout.specs.SitesWords.{is_gap, magnitude_in, number_in, words};
+ghost use Rattle.sqd_layout.specs.SitesWords.{words};
 
 use sidb_units::Memory;
 use std::alloc::{AllocError, Global};
-
-/// The most digits of a number.
-const MAX_DIGITS: usize = 9;
 
 /// The line without a carriage return at its end.
 pub fn without_return(line: &[u8]) -> &[u8]
@@ -37,54 +31,4 @@ pub fn words_in(alloc: Global, line: &[u8]) -> Result<Vec<&[u8]>, Memory>
 {
     let found = split_words(alloc, line)?;
     Ok(found)
-}
-
-/// The number of a few digits.
-fn value_of(digits: &[u8]) -> u32
-    requires digits { IsTrue (list_all is_ascii_digit digits.now) }
-    requires few { length digits.now < 10 }
-    ensures { result ≡ digits_value 10 digits.now }
-{
-    let mut value = 0;
-    for digit in digits {
-        value = value * 10 + u32::from(*digit - b'0');
-    }
-    value
-}
-
-/// Whether all bytes are digits.
-fn are_digits(bytes: &[u8]) -> bool
-    ensures { result ≡ list_all is_ascii_digit bytes.now }
-{
-    bytes.iter().all(|byte| byte.is_ascii_digit())
-}
-
-/// The number that one to nine digits are.
-fn magnitude_of(digits: &[u8]) -> Option<u32>
-    ensures { result ≡ magnitude_in digits.now }
-{
-    if digits.is_empty() || digits.len() > MAX_DIGITS {
-        return None;
-    }
-    if !are_digits(digits) {
-        return None;
-    }
-    Some(value_of(digits))
-}
-
-/// The whole number that the word is: an optional `-` and one to nine digits.
-pub fn number_of(word: &[u8]) -> Option<i64>
-    ensures { result ≡ number_in word.now }
-{
-    match word {
-        [] => None,
-        [b'-', digits @ ..] => {
-            let magnitude = magnitude_of(digits)?;
-            Some(-i64::from(magnitude))
-        }
-        [_, ..] => {
-            let magnitude = magnitude_of(word)?;
-            Some(i64::from(magnitude))
-        }
-    }
 }

@@ -1,6 +1,6 @@
 use Rattle.std.proofs.Common.{get_or, arith}
-use Rattle.sqd_layout.proofs.Digits.{digit_at, digit_to, front_small, one_more}
-use Rattle.sqd_layout.proofs.sites.words.value_of.Goals as goal
+use Rattle.sqd_elements.proofs.Digits.{digit_at, digit_to, front_small, one_more}
+use Rattle.sqd_elements.proofs.number.value_of.Goals as goal
 
 pub overflow_mul-value : goal.overflow_mul-value
 overflow_mul-value c =

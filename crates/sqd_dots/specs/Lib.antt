@@ -1,0 +1,4 @@
+pub mod Dots
+pub mod Drawings
+pub mod Levels
+pub mod States

@@ -1,0 +1,4 @@
+pub mod Digits
+pub mod KeptLemmas
+mod StandardFacts
+mod Refusals
