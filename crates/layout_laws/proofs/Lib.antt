@@ -1,0 +1,6 @@
+pub mod Decisions
+pub mod Sorting
+pub mod RowOrder
+pub mod Made
+pub mod Searches
+pub mod Existence

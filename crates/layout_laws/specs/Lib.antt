@@ -1,0 +1,3 @@
+pub use Rattle.sidb_layout.specs.Site
+pub use Rattle.sidb_layout.specs.Layout
+pub use Rattle.sidb_layout.specs.Refusal

@@ -1,0 +1,2 @@
+pub use Rattle.sidb_layout.specs.Layout
+pub use Rattle.sqd_layout.specs.SitesFaults

@@ -1,0 +1,4 @@
+//! Each text is a sites text, or has a first fault.
+#![tactic(auto)]
+
+pub mod laws;
