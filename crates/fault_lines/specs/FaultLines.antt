@@ -1,12 +1,14 @@
--- the lines that a run prints where it refuses its words or its input
-use Rattle.std.specs.Prelude.{ℕ, List, [], ◌∷◌, codes, decimal}
+-- the lines that a run prints where it refuses its words, its input, or the work that it asks for
+use Rattle.std.specs.Prelude.{◌≢◌, ℕ, List, [], ◌∷◌, codes, decimal}
 use Rattle.text_rows.specs.Rows.{text_of}
-use Rattle.potential_table.specs.declared.fault.LineWhy.{LineWhy}
-use Rattle.potential_table.specs.declared.fault.LineWhy.TheVariants.{Form, Range}
-use Rattle.potential_table.specs.declared.fault.TableFault.{TableFault}
-use Rattle.potential_table.specs.declared.fault.TableFault.TheVariants.{Line, TooMany, TooManyFixed, BadSpan, TwicePair, TwiceNear, MissingPair, MissingNear, Memory}
+use Rattle.table_reading.specs.declared.fault.LineWhy.{LineWhy}
+use Rattle.table_reading.specs.declared.fault.LineWhy.TheVariants.{Form, Range}
+use Rattle.table_reading.specs.declared.fault.TableFault.{TableFault}
+use Rattle.table_reading.specs.declared.fault.TableFault.TheVariants as table
+use Rattle.sqd_layout.specs.declared.fault.SqdFault.{SqdFault}
+use Rattle.sqd_layout.specs.declared.fault.SqdFault.TheVariants as layout
 use Rattle.fault_lines.specs.declared.input_fault.InputFault.{InputFault}
-use Rattle.fault_lines.specs.declared.input_fault.InputFault.TheVariants.{TooLong, Table}
+use Rattle.fault_lines.specs.declared.input_fault.InputFault.TheVariants.{TooLong, Layout, Table}
 
 -- the word of what is wrong with a line
 abbrev pub why_word : LineWhy → List ℕ
@@ -15,20 +17,43 @@ why_word Range = codes "range"
 
 -- what is wrong with a table text; want of memory is no fault of a text, and has no words
 abbrev pub table_fault_words : TableFault → List (List ℕ)
-table_fault_words (Line k why) = codes "line" ∷ decimal k ∷ why_word why ∷ []
-table_fault_words TooMany = codes "too-many" ∷ []
-table_fault_words TooManyFixed = codes "too-many-fixed" ∷ []
-table_fault_words (BadSpan c) = codes "span" ∷ decimal c ∷ []
-table_fault_words (TwicePair i j) = codes "twice" ∷ decimal i ∷ decimal j ∷ []
-table_fault_words (TwiceNear i a) = codes "twice-near" ∷ decimal i ∷ decimal a ∷ []
-table_fault_words (MissingPair i j) = codes "missing" ∷ decimal i ∷ decimal j ∷ []
-table_fault_words (MissingNear i a) = codes "missing-near" ∷ decimal i ∷ decimal a ∷ []
-table_fault_words Memory = []
+table_fault_words (table.Line k why) = codes "line" ∷ decimal k ∷ why_word why ∷ []
+table_fault_words table.TooMany = codes "too-many" ∷ []
+table_fault_words table.TooManyFixed = codes "too-many-fixed" ∷ []
+table_fault_words (table.BadSpan c) = codes "span" ∷ decimal c ∷ []
+table_fault_words (table.TwicePair i j) = codes "twice" ∷ decimal i ∷ decimal j ∷ []
+table_fault_words (table.TwiceNear i a) = codes "twice-near" ∷ decimal i ∷ decimal a ∷ []
+table_fault_words (table.MissingPair i j) = codes "missing" ∷ decimal i ∷ decimal j ∷ []
+table_fault_words (table.MissingNear i a) = codes "missing-near" ∷ decimal i ∷ decimal a ∷ []
+table_fault_words table.Memory = []
+
+-- what is wrong with the text of a layout; want of memory has no words here either
+abbrev pub layout_fault_words : SqdFault → List (List ℕ)
+layout_fault_words (layout.BadMark at) = codes "bad-mark" ∷ decimal at ∷ []
+layout_fault_words (layout.NotClosed at) = codes "not-closed" ∷ decimal at ∷ []
+layout_fault_words (layout.WrongClose at) = codes "wrong-close" ∷ decimal at ∷ []
+layout_fault_words (layout.Doctype at) = codes "doctype" ∷ decimal at ∷ []
+layout_fault_words (layout.Cdata at) = codes "cdata" ∷ decimal at ∷ []
+layout_fault_words layout.NotSiqad = codes "not-siqad" ∷ []
+layout_fault_words (layout.BadSite at) = codes "bad-site" ∷ decimal at ∷ []
+layout_fault_words (layout.BadLine k) = codes "bad-line" ∷ decimal k ∷ []
+layout_fault_words (layout.OutOfRange k) = codes "out-of-range" ∷ decimal k ∷ []
+layout_fault_words layout.TooMany = codes "too-many" ∷ []
+layout_fault_words layout.TooManyFixes = codes "too-many-fixes" ∷ []
+layout_fault_words (layout.Duplicate a b) = codes "duplicate" ∷ decimal a ∷ decimal b ∷ []
+layout_fault_words (layout.TooClose a b) = codes "too-close" ∷ decimal a ∷ decimal b ∷ []
+layout_fault_words layout.Memory = []
 
 -- what is wrong with an input
 abbrev pub input_fault_words : InputFault → List (List ℕ)
 input_fault_words TooLong = codes "too-long" ∷ []
+input_fault_words (Layout fault) = layout_fault_words fault
 input_fault_words (Table fault) = codes "table" ∷ table_fault_words fault
+
+-- a fault of the input itself, and not that memory ran out
+pub record IsNamed (fault : InputFault) : Type 0 where
+  pub layout : fault ≢ Layout layout.Memory
+  pub table : fault ≢ Table table.Memory
 
 -- one line of words that begin with `fault`
 abbrev pub fault_line : List (List ℕ) → List ℕ
@@ -41,6 +66,10 @@ words_line = fault_line (codes "words" ∷ [])
 -- the line where the input is refused
 abbrev pub input_line : InputFault → List ℕ
 input_line fault = fault_line (codes "input" ∷ input_fault_words fault)
+
+-- the line where more nodes would have to be searched than this limit
+abbrev pub budget_line : ℕ → List ℕ
+budget_line limit = fault_line (codes "budget" ∷ decimal limit ∷ [])
 
 -- the line where the ground list has too many entries
 abbrev pub list_too_long_line : List ℕ

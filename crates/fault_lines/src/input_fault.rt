@@ -1,10 +1,13 @@
 use potential_table::TableFault;
+use sqd_layout::SqdFault;
 
 /// Why the bytes of an input are refused.
 #[derive(Clone, Copy, Debug, PartialEq, Eq)]
 pub enum InputFault {
     /// There are more bytes than an input may have.
     TooLong,
+    /// The first fault of the text of a layout.
+    Layout(SqdFault),
     /// The first fault of a table text.
     Table(TableFault),
 }

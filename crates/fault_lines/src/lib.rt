@@ -1,8 +1,10 @@
-//! The lines that a run prints where it refuses its words or its input.
+//! The lines that a run prints where it refuses its words, its input, or the work asked for.
 #![tactic(auto)]
 
 mod input_fault;
+mod layout_lines;
 mod lines;
+mod table_lines;
 
 pub use input_fault::InputFault;
-pub use lines::{input_line, list_too_long_line, words_line};
+pub use lines::{budget_line, input_line, list_too_long_line, words_line};

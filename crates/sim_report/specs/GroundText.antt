@@ -1,51 +1,92 @@
--- the ground text: a list of entries with their marks, as lines of words
-use Rattle.std.specs.Prelude.{ℕ, List, [], ◌∷◌, ◌++◌, length, map, codes, decimal}
+-- the ground text: a ground list with its marks and what it is about, as lines of words
+use Rattle.std.specs.Prelude.{◌≡◌, ℕ, Bool, true, false, if◌then◌else◌, List, [], ◌∷◌, ◌++◌, length, map, zip, codes, decimal, Option, None, Some}
+use Rattle.std.specs.List.{enumerate_from}
 use Rattle.std.specs.Fmt.{signed_decimal}
-use Rattle.charge_model.specs.declared.charge.Test.{Test}
-use Rattle.charge_model.specs.declared.charge.Test.TheVariants.{AboveMinus, AbovePlus, BelowMinus, BelowPlus}
-use Rattle.charge_model.specs.declared.mark.Deciding.{Deciding}
-use Rattle.charge_model.specs.declared.mark.Deciding.TheVariants.{Population, Hop, Rival}
-use Rattle.charge_model.specs.declared.mark.Mark.{Mark}
-use Rattle.charge_model.specs.declared.mark.Mark.TheVariants.{Certain, Unresolved}
+use Rattle.charge_model.specs.declared.span.Span.{Span}
+use Rattle.charge_model.specs.Problem.{Problem}
 use Rattle.charge_model.specs.GroundList.{Entry}
-use Rattle.charge_state.specs.Text.{charges_text}
+use Rattle.sidb_layout.specs.declared.site.Site.{Site}
+use Rattle.sidb_layout.specs.declared.site.Fix.{Fix}
+use Rattle.sidb_layout.specs.declared.lattice.Lattice.{Lattice}
+use Rattle.sidb_layout.specs.Layout.{Arrangement}
 use Rattle.text_rows.specs.Rows.{text_of}
+use Rattle.entry_lines.specs.EntryLines.{entry_words, span_words}
+use Rattle.ground_report.specs.declared.about.About.{About}
+use Rattle.ground_report.specs.Subject.{is_silicon, version_of, skipped_in}
+use Rattle.ground_report.specs.Energies.{AreEnergies}
 
--- the word of a test
-abbrev pub test_word : Test → List ℕ
-test_word AboveMinus = codes "above-minus"
-test_word AbovePlus = codes "above-plus"
-test_word BelowMinus = codes "below-minus"
-test_word BelowPlus = codes "below-plus"
+-- the line of a lattice: the step from column to column, that from row to row, and the offset of a
+-- second atom, in hundredths of an ångström
+abbrev pub lattice_row : Lattice → List (List ℕ)
+lattice_row v = codes "lattice" ∷ signed_decimal v.ax ∷ signed_decimal v.ay ∷ signed_decimal v.bx
+    ∷ signed_decimal v.by ∷ signed_decimal v.cx ∷ signed_decimal v.cy ∷ []
 
--- what decides that an entry is not certain, with its least and greatest slack in 10^-12 V
-abbrev pub deciding_words : Deciding → List (List ℕ)
-deciding_words (Population i k s) = codes "population" ∷ decimal i ∷ test_word k
-    ∷ signed_decimal s.lo ∷ signed_decimal s.hi ∷ []
-deciding_words (Hop i j s) = codes "hop" ∷ decimal i ∷ decimal j
-    ∷ signed_decimal s.lo ∷ signed_decimal s.hi ∷ []
-deciding_words (Rival j s) = codes "rival" ∷ decimal j
-    ∷ signed_decimal s.lo ∷ signed_decimal s.hi ∷ []
+-- another lattice than that of silicon has a line
+abbrev pub lattice_rows : Lattice → List (List (List ℕ))
+lattice_rows v = if is_silicon v then [] else lattice_row v ∷ []
 
--- a mark
-abbrev pub mark_words : Mark → List (List ℕ)
-mark_words Certain = codes "certain" ∷ []
-mark_words (Unresolved d) = codes "unresolved" ∷ deciding_words d
+-- the line of a site: its number in row order, and its place
+abbrev pub site_row : ℕ × Site → List (List ℕ)
+site_row x = codes "site" ∷ decimal x.0
+    ∷ signed_decimal x.1.n ∷ signed_decimal x.1.m ∷ signed_decimal x.1.l ∷ []
 
--- the line of an entry: its charges and its mark
-abbrev pub entry_words : Entry → List (List ℕ)
-entry_words e = charges_text e.charges ∷ mark_words e.mark
+-- the line of a fixed charge: its number in row order, its place and its charge
+abbrev pub fix_row : ℕ × Fix → List (List ℕ)
+fix_row x = codes "fix" ∷ decimal x.0 ∷ signed_decimal x.1.site.n ∷ signed_decimal x.1.site.m
+    ∷ signed_decimal x.1.site.l ∷ signed_decimal x.1.charge ∷ []
 
--- the lines before the entries: how many sites, nothing skipped, how many entries
-abbrev pub head_rows : ℕ → ℕ → List (List (List ℕ))
-head_rows sites entries = (codes "sidb-ground" ∷ codes "1" ∷ [])
-    ∷ (codes "sites" ∷ decimal sites ∷ []) ∷ (codes "skipped" ∷ codes "0" ∷ [])
+-- the lines of a layout: its lattice, its sites and its fixed charges
+abbrev pub layout_rows : Option Arrangement → List (List (List ℕ))
+layout_rows None = []
+layout_rows (Some l) = lattice_rows l.lattice
+    ++ (map site_row (enumerate_from 0 l.sites) ++ map fix_row (enumerate_from 0 l.fixes))
+
+-- the first two lines: the version, and how many sites there are
+abbrev pub title_rows : About → ℕ → List (List (List ℕ))
+title_rows a sites = (codes "sidb-ground" ∷ decimal (version_of a.layout) ∷ [])
+    ∷ (codes "sites" ∷ decimal sites ∷ []) ∷ []
+
+-- how many items were skipped, and how many entries there are
+abbrev pub count_rows : About → ℕ → List (List (List ℕ))
+count_rows a entries = (codes "skipped" ∷ decimal (skipped_in a) ∷ [])
     ∷ (codes "entries" ∷ decimal entries ∷ []) ∷ []
 
 -- the last line
 abbrev pub end_rows : List (List (List ℕ))
 end_rows = (codes "end" ∷ []) ∷ []
 
--- the ground text of a problem of this many sites, where there is no layout
-abbrev pub ground_text : ℕ → List Entry → List ℕ
-ground_text sites es = text_of (head_rows sites (length es) ++ (map entry_words es ++ end_rows))
+-- the text with these lines of entries
+abbrev pub text_with : About → ℕ → List (List (List ℕ)) → List ℕ
+text_with a sites rows = text_of (title_rows a sites
+    ++ (layout_rows a.layout ++ (count_rows a (length rows) ++ (rows ++ end_rows))))
+
+-- the line of an entry with its least and greatest energy at scale 1, in 10^-12 V
+abbrev pub energy_row : Entry × Span → List (List ℕ)
+energy_row x = entry_words x.0 ++ (codes "energy" ∷ span_words x.1)
+
+-- the lines of the entries, with their energies
+pub record AreLinesWithEnergies (p : Problem) (es : List Entry) (text : List ℕ) : Type 0 where
+  pub spans : List Span
+  pub energies : AreEnergies p es spans
+  pub prints : text ≡ text_of (map energy_row (zip es spans))
+
+-- the lines of the entries, without energies or with them
+abbrev pub AreEntryLines : Problem → List Entry → Bool → List ℕ → Type 0
+AreEntryLines p es false text = text ≡ text_of (map entry_words es)
+AreEntryLines p es true text = AreLinesWithEnergies p es text
+
+-- the ground text without energies
+abbrev pub plain_text : About → ℕ → List Entry → List ℕ
+plain_text a sites es = text_with a sites (map entry_words es)
+
+-- the ground text with the energy of each entry
+pub record IsTextWithEnergies (a : About) (p : Problem) (es : List Entry) (text : List ℕ)
+    : Type 0 where
+  pub spans : List Span
+  pub energies : AreEnergies p es spans
+  pub prints : text ≡ text_with a p.sites (map energy_row (zip es spans))
+
+-- the ground text, without energies or with them
+abbrev pub IsGroundText : About → Problem → List Entry → Bool → List ℕ → Type 0
+IsGroundText a p es false text = text ≡ plain_text a p.sites es
+IsGroundText a p es true text = IsTextWithEnergies a p es text

@@ -1,7 +1,15 @@
 //! The texts that a run prints.
 #![tactic(auto)]
 
-mod entry;
+pub mod laws;
+mod layout;
+mod lists;
 mod report;
+mod rows;
 
+pub use ground_report::About;
 pub use report::ground_text;
+pub use sim_report_json::ground_json;
+
+#[cfg(test)]
+mod tests;

@@ -1,31 +1,75 @@
-ghost use Rattle.std.specs.Prelude.{◌≡◌, string_bytes, IfOk};
-ghost use Rattle.sim_report.specs.GroundText.{ground_text, head_rows};
+ghost use Rattle.std.specs.Prelude.{◌≡◌, ◌++◌, string_bytes, IfOk};
 ghost use Rattle.text_rows.specs.Rows.{text_of};
+ghost use Rattle.ground_report.specs.Subject.{AreOf, IsAbout};
+ghost use Rattle.sim_report.specs.GroundText.{IsGroundText, count_rows, layout_rows, title_rows};
 
-use crate::entry::entry_line;
+use crate::layout::layout_lines;
+use crate::lists::list_lines;
+use ground_report::About;
+use potential_problem::Problem;
 use prune_certificate::GroundList;
 use sidb_units::Memory;
 use std::alloc::Global;
 
-/// The lines before the entries.
-fn head(alloc: Global, sites: usize, entries: usize) -> Result<String, Memory>
-    ensures { IfOk result (λ text. string_bytes text ≡ text_of (head_rows sites entries)) }
+/// The ground text: what it is and its version, the number of sites, the lattice where it is
+/// another one than that of silicon, each site and each fixed charge of the layout, the number of
+/// skipped items and of entries, each entry and its mark, and the end. With energies each entry
+/// has its least and greatest energy at scale 1, in 10^-12 V.
+pub fn ground_text(
+    alloc: Global,
+    about: &About,
+    problem: &Problem,
+    list: &GroundList,
+    energies: bool,
+) -> Result<String, Memory>
+    requires entries { AreOf problem.now list.now }
+    requires layout { IsAbout about.now problem.now }
+    ensures text { IfOk result (λ text.
+        IsGroundText about.now problem.now list.now energies (string_bytes text)) }
 {
-    Ok(format!(in alloc; "sidb-ground 1\nsites {sites}\nskipped 0\nentries {entries}\n")?)
-}
-
-/// The ground text of a problem of this many sites, where there is no layout: a line of its own
-/// for what it is, for the number of sites, of skipped ones and of entries, for each entry and its
-/// mark, and for the end.
-pub fn ground_text(alloc: Global, sites: usize, list: &GroundList) -> Result<String, Memory>
-    ensures { IfOk result (λ text. string_bytes text ≡ ground_text sites list.now) }
-{
-    let mut text = head(alloc, sites, list.len())?;
-    for j in 0..list.len() {
-        let line = entry_line(alloc, list.entry(j))?;
-        text.push_str(&line)?;
-        text.push_str("\n")?;
-    }
+    let mut text = head(alloc, about, problem.sites(), list.len())?;
+    let entries = list_lines(alloc, problem, list, energies)?;
+    text.push_str(&entries)?;
     text.push_str("end\n")?;
     Ok(text)
+}
+
+/// The lines before the entries.
+fn head(alloc: Global, about: &About, sites: usize, entries: usize) -> Result<String, Memory>
+    ensures { IfOk result (λ text. string_bytes text ≡ text_of (title_rows about.now sites
+        ++ (layout_rows about.now.layout ++ count_rows about.now entries))) }
+{
+    let mut text = title(alloc, about, sites)?;
+    let layout = about_lines(alloc, about)?;
+    let counts = counts(alloc, about, entries)?;
+    text.push_str(&layout)?;
+    text.push_str(&counts)?;
+    Ok(text)
+}
+
+/// The first two lines.
+fn title(alloc: Global, about: &About, sites: usize) -> Result<String, Memory>
+    ensures { IfOk result (λ text. string_bytes text ≡ text_of (title_rows about.now sites)) }
+{
+    let version = about.version();
+    Ok(format!(in alloc; "sidb-ground {version}\nsites {sites}\n")?)
+}
+
+/// The lines of the layout, where there is one.
+fn about_lines(alloc: Global, about: &About) -> Result<String, Memory>
+    ensures { IfOk result (λ text. string_bytes text
+        ≡ text_of (layout_rows about.now.layout)) }
+{
+    match &about.layout {
+        Some(layout) => layout_lines(alloc, layout),
+        None => Ok(String::new(alloc)),
+    }
+}
+
+/// How many items were skipped, and how many entries there are.
+fn counts(alloc: Global, about: &About, entries: usize) -> Result<String, Memory>
+    ensures { IfOk result (λ text. string_bytes text ≡ text_of (count_rows about.now entries)) }
+{
+    let skipped = about.skipped_items();
+    Ok(format!(in alloc; "skipped {skipped}\nentries {entries}\n")?)
 }

@@ -1,10 +1,12 @@
-use Rattle.std.proofs.Common.{◌∙◌, length, arith}
-use Rattle.sim_report.specs.GroundText.{head_rows}
-use Rattle.sim_report.proofs.RowLemmas.{one_more_entry, end_behind}
+use Rattle.std.proofs.Common.{◌∙◌, ap, sym, ℕ, List, ◌++◌, string_bytes}
+use Rattle.text_rows.specs.Rows.{text_of}
+use Rattle.sim_report.specs.GroundText.{title_rows, layout_rows, count_rows}
+use Rattle.sim_report.proofs.Whole.{whole}
 use Rattle.sim_report.proofs.report.ground_text.Goals as goal
 
-pub loop-j-preserved : goal.loop-j-preserved
-loop-j-preserved c = one_more_entry (head_rows c.args.sites (length c.args.list.now)) c.args.list.now c.loop-j.j _ _ _ _ _ c.entry.ensures c.loop-j.invariant (c.deref.ensures ∙ c.in_ok-line.ensures) c.in_ok-push_str.ensures.bytes c.in_ok-push_str-2.ensures.bytes
-
 pub returns : goal.returns
-returns c = end_behind (head_rows c.args.sites (length c.args.list.now)) c.args.list.now c.loop-j.j _ _ (omega arith) c.loop-j.invariant c.in_ok-push_str-3.ensures.bytes
+returns c =
+    let a = c.args.about.now in
+    let before = c.in_ok-text.ensures ∙ ap (λ (n : ℕ). text_of (title_rows a n ++ (layout_rows a.layout ++ count_rows a c.len.result))) c.sites.ensures.value in
+    let body = c.in_ok-push_str.ensures.bytes ∙ ap (λ (t : List ℕ). string_bytes c.in_ok-text.text ++ t) c.deref.ensures in
+    record { text = whole a c.args.problem.now c.args.list.now c.args.energies c.len.result _ _ _ _ before (sym c.len.ensures.value) c.in_ok-entries.ensures body c.in_ok-push_str-2.ensures.bytes }

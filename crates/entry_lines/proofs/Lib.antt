@@ -1,0 +1,3 @@
+pub mod OneMark
+mod StandardFacts
+mod Refusals

@@ -1,0 +1,2 @@
+pub use Rattle.charge_model.specs.GroundList
+pub mod EntryLines

@@ -1,0 +1,18 @@
+-- what is no fault of an input, and lines that differ
+use Rattle.std.proofs.Common.{◌≡◌, refl, length, ap, arith}
+use Rattle.table_reading.specs.declared.fault.TableFault.TheVariants as table
+use Rattle.sqd_layout.specs.declared.fault.SqdFault.TheVariants as layout
+use Rattle.fault_lines.specs.declared.input_fault.InputFault.TheVariants.{Layout, Table}
+use Rattle.fault_lines.specs.FaultLines.{IsNamed, input_line}
+
+no_table_memory : IsNamed (Table table.Memory) → ⊥
+no_table_memory is = is.table refl
+
+no_layout_memory : IsNamed (Layout layout.Memory) → ⊥
+no_layout_memory is = is.layout refl
+
+of_tables_or_layouts : input_line (Layout layout.TooMany) ≡ input_line (Table table.TooMany) → ⊥
+of_tables_or_layouts is = let differ : 21 ≡ 27 = ap length is in omega (arith, differ)
+
+sites_or_fixed_charges : input_line (Layout layout.TooMany) ≡ input_line (Layout layout.TooManyFixes) → ⊥
+sites_or_fixed_charges is = let differ : 21 ≡ 27 = ap length is in omega (arith, differ)

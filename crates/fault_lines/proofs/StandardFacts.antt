@@ -1,0 +1,55 @@
+-- lines written by hand
+use Rattle.std.proofs.Common.{◌≡◌, refl, [], ◌∷◌, ◌++◌, codes}
+use Rattle.std.specs.Fmt.{digits}
+use Rattle.table_reading.specs.declared.fault.LineWhy.TheVariants.{Form}
+use Rattle.table_reading.specs.declared.fault.TableFault.TheVariants as table
+use Rattle.sqd_layout.specs.declared.fault.SqdFault.TheVariants as layout
+use Rattle.fault_lines.specs.declared.input_fault.InputFault.TheVariants.{TooLong, Layout, Table}
+use Rattle.fault_lines.specs.FaultLines.{IsNamed, input_line, budget_line, words_line, list_too_long_line}
+
+words : words_line ≡ codes "fault words" ++ 10 ∷ []
+words = refl
+
+budget : budget_line 9840 ≡ codes "fault budget 9840" ++ 10 ∷ []
+unfolding digits
+budget = refl
+
+too_long_a_list : list_too_long_line ≡ codes "fault list-too-long" ++ 10 ∷ []
+too_long_a_list = refl
+
+too_long : input_line TooLong ≡ codes "fault input too-long" ++ 10 ∷ []
+too_long = refl
+
+not_closed : input_line (Layout (layout.NotClosed 32)) ≡ codes "fault input not-closed 32" ++ 10 ∷ []
+unfolding digits
+not_closed = refl
+
+not_siqad : input_line (Layout layout.NotSiqad) ≡ codes "fault input not-siqad" ++ 10 ∷ []
+not_siqad = refl
+
+bad_line : input_line (Layout (layout.BadLine 1)) ≡ codes "fault input bad-line 1" ++ 10 ∷ []
+unfolding digits
+bad_line = refl
+
+too_many_fixes : input_line (Layout layout.TooManyFixes) ≡ codes "fault input too-many-fixes" ++ 10 ∷ []
+too_many_fixes = refl
+
+too_close : input_line (Layout (layout.TooClose 2 3)) ≡ codes "fault input too-close 2 3" ++ 10 ∷ []
+unfolding digits
+too_close = refl
+
+table_line : input_line (Table (table.Line 1 Form)) ≡ codes "fault input table line 1 form" ++ 10 ∷ []
+unfolding digits
+table_line = refl
+
+missing : input_line (Table (table.MissingPair 0 1)) ≡ codes "fault input table missing 0 1" ++ 10 ∷ []
+unfolding digits
+missing = refl
+
+missing_near : input_line (Table (table.MissingNear 0 1)) ≡ codes "fault input table missing-near 0 1" ++ 10 ∷ []
+unfolding digits
+missing_near = refl
+
+-- a fault that has words
+named : IsNamed (Layout layout.TooMany)
+named = record { layout = λ is. absurd (cc); table = λ is. absurd (cc) }

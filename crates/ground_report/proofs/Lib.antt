@@ -1,0 +1,4 @@
+pub mod OneSpan
+pub mod EnergyLists
+mod StandardFacts
+mod Refusals

@@ -1,0 +1,24 @@
+-- texts that say something else
+use Rattle.std.proofs.Common.{◌≡◌, ℕ, List, [], get_or, ap, arith, None, Some, false}
+use Rattle.std.specs.Fmt.{digits}
+use Rattle.charge_model.specs.Problem.{Problem}
+use Rattle.charge_model.specs.GroundList.{Entry}
+use Rattle.sidb_layout.specs.Lattice.{silicon}
+use Rattle.sidb_layout.specs.Layout.{arrangement_of}
+use Rattle.ground_report.specs.declared.about.About.{About}
+use Rattle.sim_report.specs.GroundText.{lattice_rows, title_rows, count_rows, IsGroundText}
+use Rattle.sim_report.proofs.StandardFacts.{closer, beside_fixed}
+
+no_line_for_silicon : lattice_rows silicon ≡ [] → lattice_rows closer ≡ [] → ⊥
+no_line_for_silicon is other = absurd (cc)
+
+not_version_1 : (n : ℕ) → title_rows beside_fixed n ≡ title_rows (record { layout = None; skipped = 0 }) n → ⊥
+unfolding digits
+not_version_1 n is = let differ : 50 ≡ 49 = ap (λ (rows : List (List (List ℕ))). get_or (get_or (get_or rows 0 []) 1 []) 0 0) is in omega (arith, differ)
+
+skipped_items_count : count_rows (record { layout = Some (arrangement_of silicon [] []); skipped = 1 }) 0 ≡ count_rows (record { layout = None; skipped = 1 }) 0 → ⊥
+unfolding digits
+skipped_items_count is = let differ : 49 ≡ 48 = ap (λ (rows : List (List (List ℕ))). get_or (get_or (get_or rows 0 []) 1 []) 0 0) is in omega (arith, differ)
+
+no_empty_text : (a : About) (p : Problem) (es : List Entry) → IsGroundText a p es false [] → ⊥
+no_empty_text a p es is = absurd (cc)

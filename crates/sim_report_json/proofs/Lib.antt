@@ -1,0 +1,4 @@
+pub mod Items
+pub mod NoFloats
+mod StandardFacts
+mod Refusals
