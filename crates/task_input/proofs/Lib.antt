@@ -1,0 +1,4 @@
+pub mod OneInput
+pub mod Told
+mod StandardFacts
+mod Refusals

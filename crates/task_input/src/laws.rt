@@ -1,0 +1,49 @@
+//! What holds of every input: it has one meaning, or one fault.
+ghost use Rattle.std.specs.Prelude.{◌≡◌, ℕ, List, Some};
+ghost use Rattle.charge_model.specs.Problem.{Problem as ProblemData};
+ghost use Rattle.command_words.specs.declared.settings.Form.{Form};
+ghost use Rattle.command_words.specs.declared.settings.Settings.{Settings};
+ghost use Rattle.fault_lines.specs.declared.input_fault.InputFault.{InputFault};
+ghost use Rattle.ground_report.specs.declared.about.About.{About as AboutData};
+ghost use Rattle.sidb_layout.specs.Layout.{Arrangement};
+ghost use Rattle.task_input.specs.Input.{HoldsDistancesBy, IsInput, IsInputFault};
+
+use screened_coulomb::laws as layout_problems;
+
+/// By the same settings the same bytes mean one problem, of which one thing is told.
+pub fn one_input()
+    ensures { (s : Settings) (bytes : List ℕ) (p q : ProblemData) (a b : AboutData)
+        → IsInput s bytes p a → IsInput s bytes q b → (p ≡ q) × (a ≡ b) }
+{
+    sqd_layout::laws::one_layout();
+    sqd_layout::laws::one_drawn_layout();
+    layout_problems::one_problem();
+    potential_table::laws::one_problem();
+}
+
+/// In one form bytes have one fault at most.
+pub fn one_fault()
+    ensures { (form : Form) (bytes : List ℕ) (f g : InputFault) → IsInputFault form bytes f
+        → IsInputFault form bytes g → f ≡ g }
+{
+    sqd_layout::laws::one_fault();
+    sqd_layout::laws::one_sqd_fault();
+    potential_table::laws::one_fault();
+}
+
+/// Bytes that mean a problem have no fault.
+pub fn no_fault()
+    ensures { (s : Settings) (bytes : List ℕ) (p : ProblemData) (a : AboutData) (f : InputFault)
+        → IsInput s bytes p a → IsInputFault s.form bytes f → ⊥ }
+{
+    sqd_layout::laws::no_fault();
+    sqd_layout::laws::no_sqd_fault();
+    potential_table::laws::no_fault();
+}
+
+/// Where an input has a layout, the span of each class holds the distance of its pairs.
+pub fn spans_hold_distances()
+    ensures { (s : Settings) (bytes : List ℕ) (p : ProblemData) (a : AboutData)
+        (layout : Arrangement) → IsInput s bytes p a → a.layout ≡ Some layout
+        → HoldsDistancesBy s layout p }
+{}
