@@ -1,18 +1,36 @@
 -- what a task answers is the answer to the settings
-use Rattle.std.proofs.Common.{◌≡◌, ◌⊎◌, inl, inr, ℕ, List}
+use Rattle.std.proofs.Common.{◌≡◌, ◌⊎◌, inl, inr, sym, subst, ℕ, suc, List, [], ◌∷◌, Option, map, arith}
+use Rattle.std.specs.Prelude.{All}
+use Rattle.std.proofs.lemmas.List.Elements.{All-nil, All-cons}
 use Rattle.charge_model.specs.Problem.{Problem}
+use Rattle.charge_model.specs.Rules.{IsChargeList}
+use Rattle.charge_model.specs.GroundList.{Entry, IsListed, IsMarkedGroundList}
 use Rattle.command_words.specs.declared.settings.Settings.{Settings}
 use Rattle.command_words.specs.declared.settings.Task.{Task}
-use Rattle.command_words.specs.declared.settings.Task.TheVariants.{Ground}
-use Rattle.potential_table.specs.declared.fault.TableFault.TheVariants.{Memory as OutOfMemory}
 use Rattle.fault_lines.specs.declared.input_fault.InputFault.{InputFault}
-use Rattle.fault_lines.specs.declared.input_fault.InputFault.TheVariants.{Table}
+use Rattle.ground_report.specs.declared.about.About.{About}
+use Rattle.ground_report.specs.Subject.{AreOf}
+use Rattle.task_input.specs.Input.{IsInput, IsInputFault, IsWantOfMemory}
 use Rattle.sim_cli.specs.declared.status.Status.{Status}
-use Rattle.sim_cli.specs.Answer.{IsAnswerFor, IsFaultAnswer, IsGroundAnswer, IsInputFault, IsTaskAnswer}
+use Rattle.sim_cli.specs.Answer.{IsAnswerFor, IsFaultAnswer, IsTaskAnswer}
+use Rattle.sim_cli.specs.Run.{Wrote}
 
-pub for_ground : (task : Task) (p : Problem) (status : Status) (text : List ℕ) → IsGroundAnswer p status text → IsAnswerFor task p status text
-for_ground Ground p status text is = is
+pub for_input : (s : Settings) (bytes : List ℕ) (p : Problem) (about : About) → IsInput s bytes p about → (status : Status) (text : List ℕ) → IsAnswerFor s.task s about p status text → IsTaskAnswer s bytes status text
+for_input s bytes p about means status text is = inr (record { problem = p; about = about; means = means; answers = is })
 
-pub for_fault : (s : Settings) (bytes : List ℕ) (fault : InputFault) → (fault ≡ Table OutOfMemory) ⊎ IsInputFault s.form bytes fault → (status : Status) (text : List ℕ) → IsFaultAnswer fault status text → IsTaskAnswer s bytes status text
-for_fault s bytes fault (inl memory) status text is = absurd (is.named memory)
-for_fault s bytes fault (inr of) status text is = inl (fault, of, is)
+pub for_fault : (s : Settings) (bytes : List ℕ) (fault : InputFault) → IsWantOfMemory fault ⊎ IsInputFault s.form bytes fault → (status : Status) (text : List ℕ) → IsFaultAnswer fault status text → IsTaskAnswer s bytes status text
+for_fault s bytes fault (inl (inl memory)) status text is = absurd (is.named.layout memory)
+for_fault s bytes fault (inl (inr memory)) status text is = absurd (is.named.table memory)
+for_fault s bytes fault (inr refuses) status text is = inl (record { fault = fault; refuses = refuses; tells = is })
+
+-- what was written for a task, where that is the task of the settings
+pub by_task : (task asked : Task) (s : Settings) (about : About) (p : Problem) (before after : ℕ) (result : Status) (old new : Option (List ℕ)) → asked ≡ task → Wrote (IsAnswerFor task s about p) before after result old new → Wrote (IsAnswerFor asked s about p) before after result old new
+by_task task asked s about p before after result old new same wrote = subst (λ t. Wrote (IsAnswerFor t s about p) before after result old new) (sym same) wrote
+
+-- the entries of a marked ground list are charge lists of the problem
+pub entries_of : (p : Problem) (es : List Entry) → IsMarkedGroundList p es → AreOf p es
+entries_of p es is = listed es is.ground.only_listed
+  where
+    listed : (es : List Entry) → All (IsListed p) (map (λ e. e.charges) es) → All (λ e. IsChargeList p e.charges) es
+    listed [] all = All-nil (λ (e : Entry). IsChargeList p e.charges)
+    listed (e ∷ es) all = All-cons (λ (e : Entry). IsChargeList p e.charges) e es (all 0 e.charges (omega arith)).is_list (listed es (λ k d less. all (suc k) d (omega arith)))

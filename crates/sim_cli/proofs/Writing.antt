@@ -4,7 +4,7 @@ use Rattle.std.proofs.lemmas.List.{append-nil}
 use Rattle.sidb_io.specs.Outside.{HasFault, TookFront}
 use Rattle.fault_lines.specs.declared.input_fault.InputFault.{InputFault}
 use Rattle.sim_cli.specs.declared.status.Status.{Status}
-use Rattle.sim_cli.specs.declared.status.Status.TheVariants.{Answered, Words, Input, ListTooLong, ReadFault, WriteFault, Memory}
+use Rattle.sim_cli.specs.declared.status.Status.TheVariants.{Answered, Words, Input, Budget, ListTooLong, ReadFault, WriteFault, Memory}
 use Rattle.sim_cli.specs.Run.{Ran, Wrote, IsWritten}
 
 pub wrote_answered : (answer : Status → List ℕ → Type 0) (text : List ℕ) (before after : ℕ) (result : Status) (old new : Option (List ℕ)) → answer Answered text → IsWritten Answered text before after result old new → Wrote answer before after result old new
@@ -15,6 +15,10 @@ pub wrote_list_too_long : (answer : Status → List ℕ → Type 0) (text : List
 wrote_list_too_long answer text before after result old new is (inl done) = subst (λ s. Wrote answer before after s old new) (sym done.0) (text, is, done.1)
 wrote_list_too_long answer text before after result old new is (inr failed) = subst (λ s. Wrote answer before after s old new) (sym failed.0) (failed.1, (ListTooLong, text, is, failed.2))
 
+pub wrote_budget : (answer : Status → List ℕ → Type 0) (text : List ℕ) (before after : ℕ) (result : Status) (old new : Option (List ℕ)) → answer Budget text → IsWritten Budget text before after result old new → Wrote answer before after result old new
+wrote_budget answer text before after result old new is (inl done) = subst (λ s. Wrote answer before after s old new) (sym done.0) (text, is, done.1)
+wrote_budget answer text before after result old new is (inr failed) = subst (λ s. Wrote answer before after s old new) (sym failed.0) (failed.1, (Budget, text, is, failed.2))
+
 pub wrote_input : (answer : Status → List ℕ → Type 0) (fault : InputFault) (text : List ℕ) (before after : ℕ) (result : Status) (old new : Option (List ℕ)) → answer (Input fault) text → IsWritten (Input fault) text before after result old new → Wrote answer before after result old new
 wrote_input answer fault text before after result old new is (inl done) = subst (λ s. Wrote answer before after s old new) (sym done.0) (text, is, done.1)
 wrote_input answer fault text before after result old new is (inr failed) = subst (λ s. Wrote answer before after s old new) (sym failed.0) (failed.1, (Input fault, text, is, failed.2))
@@ -23,6 +27,7 @@ pub wrote_also : (a b : Status → List ℕ → Type 0) → ((status : Status) (
 wrote_also a b also before after Answered old new w = (w.0, also Answered w.0 w.1, w.2)
 wrote_also a b also before after Words old new w = (w.0, also Words w.0 w.1, w.2)
 wrote_also a b also before after (Input fault) old new w = (w.0, also (Input fault) w.0 w.1, w.2)
+wrote_also a b also before after Budget old new w = (w.0, also Budget w.0 w.1, w.2)
 wrote_also a b also before after ListTooLong old new w = (w.0, also ListTooLong w.0 w.1, w.2)
 wrote_also a b also before after ReadFault old new w = w
 wrote_also a b also before after WriteFault old new w = let f = w.1 in (w.0, (f.0, f.1, also f.0 f.1 f.2, f.3))
@@ -37,6 +42,7 @@ pub ran_wrote : (a : Status → List ℕ → Type 0) (before after : ℕ) (resul
 ran_wrote a before after Answered old new w = w
 ran_wrote a before after Words old new w = w
 ran_wrote a before after (Input fault) old new w = w
+ran_wrote a before after Budget old new w = w
 ran_wrote a before after ListTooLong old new w = w
 ran_wrote a before after ReadFault old new w = absurd w
 ran_wrote a before after WriteFault old new w = w.1
@@ -46,6 +52,7 @@ pub ran_also : (a b : Status → List ℕ → Type 0) → ((status : Status) (te
 ran_also a b also Answered old new memory w = (w.0, also Answered w.0 w.1, w.2)
 ran_also a b also Words old new memory w = (w.0, also Words w.0 w.1, w.2)
 ran_also a b also (Input fault) old new memory w = (w.0, also (Input fault) w.0 w.1, w.2)
+ran_also a b also Budget old new memory w = (w.0, also Budget w.0 w.1, w.2)
 ran_also a b also ListTooLong old new memory w = (w.0, also ListTooLong w.0 w.1, w.2)
 ran_also a b also ReadFault old new memory w = w
 ran_also a b also WriteFault old new memory w = (w.0, w.1, also w.0 w.1 w.2, w.3)

@@ -1,82 +1,89 @@
 -- the answer of a run: a status and a text, with want of memory and faults of the outside aside
-use Rattle.std.specs.Prelude.{◌≡◌, ◌≢◌, ◌⊎◌, ℕ, ◌<◌, ◌≤◌, ◌<ℤ◌, pos, List, length, Contains}
-use Rattle.sidb_units.specs.declared.TheConstants.{MAX_ENTRIES, MAX_INPUT_BYTES}
-use Rattle.charge_model.specs.declared.mark.Deciding.{Deciding}
-use Rattle.charge_model.specs.declared.mark.Mark.TheVariants.{Certain, Unresolved}
-use Rattle.charge_model.specs.Problem.{Problem, UnderEveryTable, UnderSomeTable}
-use Rattle.charge_model.specs.Rules.{IsGroundState}
-use Rattle.charge_model.specs.GroundList.{Entry, IsMarkedGroundList, ListsEachLeast, lists_of, comparison_of, comparison_slack}
+use Rattle.std.specs.Prelude.{◌≡◌, ◌⊎◌, ℕ, Bool, true, false, List}
+use Rattle.charge_model.specs.Problem.{Problem}
+use Rattle.charge_model.specs.GroundList.{Entry}
+use Rattle.text_rows.specs.Rows.{text_of}
 use Rattle.command_words.specs.declared.settings.Settings.{Settings}
-use Rattle.command_words.specs.declared.settings.Form.{Form}
-use Rattle.command_words.specs.declared.settings.Form.TheVariants.{Table as TableForm}
 use Rattle.command_words.specs.declared.settings.Task.{Task}
-use Rattle.command_words.specs.declared.settings.Task.TheVariants.{Ground}
+use Rattle.command_words.specs.declared.settings.Task.TheVariants.{Ground, Potentials}
 use Rattle.command_words.specs.Settings.{IsSettingsOf}
-use Rattle.potential_table.specs.declared.fault.TableFault.{TableFault}
-use Rattle.potential_table.specs.declared.fault.TableFault.TheVariants.{TooMany, Memory as OutOfMemory}
-use Rattle.potential_table.specs.Reading.{IsTableText, IsTableFault}
-use Rattle.ground_state.specs.Answer.{IsTooLong}
+use Rattle.ground_state.specs.Answer.{IsListedWithin, IsOverBudget, IsTooLongWithin}
 use Rattle.fault_lines.specs.declared.input_fault.InputFault.{InputFault}
-use Rattle.fault_lines.specs.declared.input_fault.InputFault.TheVariants.{TooLong, Table}
-use Rattle.fault_lines.specs.FaultLines.{words_line, input_line, list_too_long_line}
-use Rattle.sim_report.specs.GroundText.{ground_text}
-use Rattle.sim_cli.specs.declared.TheConstants.{MAX_SOLVED_SITES}
+use Rattle.fault_lines.specs.FaultLines.{IsNamed, words_line, input_line, budget_line, list_too_long_line}
+use Rattle.ground_report.specs.declared.about.About.{About}
+use Rattle.sim_report.specs.GroundText.{IsGroundText}
+use Rattle.potential_table.specs.TableRows.{table_rows}
+use Rattle.sim_report_json.specs.GroundJson.{IsGroundJson}
+use Rattle.task_input.specs.Input.{IsInput, IsInputFault}
 use Rattle.sim_cli.specs.declared.status.Status.{Status}
-use Rattle.sim_cli.specs.declared.status.Status.TheVariants.{Answered, Words, Input, ListTooLong}
-
--- what the bytes mean in a form
-abbrev pub Means : Form → List ℕ → Problem → Type 0
-Means TableForm bytes p = IsTableText bytes p
-
--- the bytes are an input of this problem, which has few enough sites
-pub record IsInput (form : Form) (bytes : List ℕ) (p : Problem) : Type 0 where
-  pub short : length bytes ≤ MAX_INPUT_BYTES
-  pub means : Means form bytes p
-  pub few_sites : p.sites ≤ MAX_SOLVED_SITES
-
--- the text of a problem with too many sites to be solved
-pub record IsTooLarge (bytes : List ℕ) : Type 0 where
-  pub problem : Problem
-  pub means : IsTableText bytes problem
-  pub many_sites : MAX_SOLVED_SITES < problem.sites
-
--- why a table text is refused: by its first fault, or for too many sites
-abbrev pub IsRefusedTable : List ℕ → TableFault → Type 0
-IsRefusedTable bytes fault = IsTableFault bytes fault ⊎ ((fault ≡ TooMany) × IsTooLarge bytes)
-
--- why bytes are refused in a form: there are too many, or as their text is
-abbrev pub IsInputFault : Form → List ℕ → InputFault → Type 0
-IsInputFault form bytes TooLong = MAX_INPUT_BYTES < length bytes
-IsInputFault TableForm bytes (Table fault) =
-    (length bytes ≤ MAX_INPUT_BYTES) × IsRefusedTable bytes fault
+use Rattle.sim_cli.specs.declared.status.Status.TheVariants.{Answered, Words, Input, Budget, ListTooLong}
 
 -- the status and the line of a fault of the input, which is not want of memory
 pub record IsFaultAnswer (fault : InputFault) (status : Status) (text : List ℕ) : Type 0 where
-  pub named : fault ≢ Table OutOfMemory
+  pub named : IsNamed fault
   pub status_is : status ≡ Input fault
   pub prints : text ≡ input_line fault
 
--- the ground text of the marked ground list of the problem, which has at most 4,096 entries
-pub record IsGroundText (p : Problem) (text : List ℕ) : Type 0 where
-  pub entries : List Entry
-  pub list : IsMarkedGroundList p entries
-  pub few : length entries ≤ MAX_ENTRIES
-  pub prints : text ≡ ground_text p.sites entries
+-- the report of entries as the ground text, or as one line of JSON, with energies or without
+abbrev pub IsReportIn : Bool → Bool → About → Problem → List Entry → List ℕ → Type 0
+IsReportIn false energies about p entries text = IsGroundText about p entries energies text
+IsReportIn true energies about p entries text = IsGroundJson about p entries energies text
 
--- the ground text, or the line that says that the ground list has too many entries
-abbrev pub IsGroundAnswer : Problem → Status → List ℕ → Type 0
-IsGroundAnswer p status text = ((status ≡ Answered) × IsGroundText p text)
-    ⊎ ((status ≡ ListTooLong) × IsTooLong p × (text ≡ list_too_long_line))
+-- the report that the settings ask for
+abbrev pub IsReport : Settings → About → Problem → List Entry → List ℕ → Type 0
+IsReport s about p entries text = IsReportIn s.json s.energies about p entries text
 
--- what a task answers for a problem
-abbrev pub IsAnswerFor : Task → Problem → Status → List ℕ → Type 0
-IsAnswerFor Ground p status text = IsGroundAnswer p status text
+-- the report of the marked ground list of the problem, which has at most 4,096 entries and is
+-- found within the limit
+pub record IsGroundReport (s : Settings) (about : About) (p : Problem) (text : List ℕ) : Type 0
+  where
+    pub entries : List Entry
+    pub list : IsListedWithin p s.limit entries
+    pub prints : IsReport s about p entries text
 
--- the answer to settings: the fault of the input, or what the task answers for its problem
+-- the status and the line of a search that would take more nodes than the limit
+abbrev pub IsBudgetAnswer : ℕ → Status → List ℕ → Type 0
+IsBudgetAnswer limit status text = (status ≡ Budget) × (text ≡ budget_line limit)
+
+-- why there is no such report: the search tree under the least certain energy has more nodes than
+-- the limit, or it has not, and the ground list has too many entries
+abbrev pub IsUnlisted : Settings → Problem → Status → List ℕ → Type 0
+IsUnlisted s p status text = (IsOverBudget p s.limit × IsBudgetAnswer s.limit status text)
+    ⊎ ((status ≡ ListTooLong) × IsTooLongWithin p s.limit × (text ≡ list_too_long_line))
+
+-- that report, or the line that says why there is none
+abbrev pub IsGroundAnswer : Settings → About → Problem → Status → List ℕ → Type 0
+IsGroundAnswer s about p status text =
+    ((status ≡ Answered) × IsGroundReport s about p text) ⊎ IsUnlisted s p status text
+
+-- the table text of the problem
+abbrev pub IsTableAnswer : Problem → Status → List ℕ → Type 0
+IsTableAnswer p status text = (status ≡ Answered) × (text ≡ text_of (table_rows p))
+
+-- what a task answers for a problem, of which this is told
+abbrev pub IsAnswerFor : Task → Settings → About → Problem → Status → List ℕ → Type 0
+IsAnswerFor Ground s about p status text = IsGroundAnswer s about p status text
+IsAnswerFor Potentials s about p status text = IsTableAnswer p status text
+
+-- what the task of the settings answers for the problem that the bytes mean
+pub record IsInputAnswer (s : Settings) (bytes : List ℕ) (status : Status) (text : List ℕ) : Type 0
+  where
+    pub problem : Problem
+    pub about : About
+    pub means : IsInput s bytes problem about
+    pub answers : IsAnswerFor s.task s about problem status text
+
+-- the line of the fault of the bytes
+pub record IsInputRefusal (s : Settings) (bytes : List ℕ) (status : Status) (text : List ℕ) : Type 0
+  where
+    pub fault : InputFault
+    pub refuses : IsInputFault s.form bytes fault
+    pub tells : IsFaultAnswer fault status text
+
+-- the answer to settings: the refusal of the input, or what the task answers
 abbrev pub IsTaskAnswer : Settings → List ℕ → Status → List ℕ → Type 0
 IsTaskAnswer s bytes status text =
-    ((fault : InputFault) × IsInputFault s.form bytes fault × IsFaultAnswer fault status text)
-    ⊎ ((p : Problem) × IsInput s.form bytes p × IsAnswerFor s.task p status text)
+    IsInputRefusal s bytes status text ⊎ IsInputAnswer s bytes status text
 
 -- the words mean no settings: clap refuses them, or a value breaks its grammar or its range
 abbrev pub AreRefused : List (List ℕ) → Type 0
@@ -88,22 +95,3 @@ abbrev pub IsAnswer : List (List ℕ) → List ℕ → Status → List ℕ → T
 IsAnswer words bytes status text =
     (AreRefused words × (status ≡ Words) × (text ≡ words_line))
     ⊎ ((s : Settings) × IsSettingsOf words s × IsTaskAnswer s bytes status text)
-
--- under every potential table each ground state is an entry, an entry marked certain is a ground
--- state, and the comparison that another names fails under some table
-pub record HoldsUnderEachTable (p : Problem) (entries : List Entry) : Type 0 where
-  pub each_listed : ListsEachLeast p (lists_of entries)
-  pub certain : (e : Entry) → Contains entries e → e.mark ≡ Certain
-      → UnderEveryTable p (λ t. IsGroundState p t e.charges)
-  pub unresolved : (e : Entry) (d : Deciding) → Contains entries e → e.mark ≡ Unresolved d
-      → UnderSomeTable p (λ t.
-      comparison_slack p (lists_of entries) e.charges (comparison_of d) t <ℤ pos 0)
-
--- the text lists the ground states of the problem that the bytes mean
-pub record PrintsGroundStates (bytes text : List ℕ) : Type 0 where
-  pub form : Form
-  pub problem : Problem
-  pub means : IsInput form bytes problem
-  pub entries : List Entry
-  pub prints : text ≡ ground_text problem.sites entries
-  pub holds : HoldsUnderEachTable problem entries

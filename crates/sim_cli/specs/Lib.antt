@@ -1,8 +1,11 @@
 pub use Rattle.charge_model.specs.GroundList
 pub use Rattle.command_words.specs.Settings
 pub use Rattle.fault_lines.specs.FaultLines
-pub use Rattle.potential_table.specs.Reading
 pub use Rattle.sidb_io.specs.Outside
 pub use Rattle.sim_report.specs.GroundText
+pub use Rattle.potential_table.specs.TableRows
+pub use Rattle.sim_report_json.specs.GroundJson
+pub use Rattle.task_input.specs.Input
 pub mod Answer
+pub mod Headline
 pub mod Run

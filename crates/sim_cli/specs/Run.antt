@@ -4,7 +4,7 @@ use Rattle.sidb_io.specs.Outside.{HasFault, Took, TookFront}
 use Rattle.command_words.specs.declared.settings.Settings.{Settings}
 use Rattle.command_words.specs.Settings.{IsSettingsOf}
 use Rattle.sim_cli.specs.declared.status.Status.{Status}
-use Rattle.sim_cli.specs.declared.status.Status.TheVariants.{Answered, Words, Input, ListTooLong, ReadFault, WriteFault, Memory}
+use Rattle.sim_cli.specs.declared.status.Status.TheVariants.{Answered, Words, Input, Budget, ListTooLong, ReadFault, WriteFault, Memory}
 
 -- that text was written whole
 abbrev pub WroteWhole : (List ℕ → Type 0) → Option (List ℕ) → Option (List ℕ) → Type 0
@@ -22,6 +22,7 @@ abbrev pub Ran : (Status → List ℕ → Type 0) → Status → Option (List �
 Ran answer Answered old new = WroteWhole (answer Answered) old new
 Ran answer Words old new = WroteWhole (answer Words) old new
 Ran answer (Input fault) old new = WroteWhole (answer (Input fault)) old new
+Ran answer Budget old new = WroteWhole (answer Budget) old new
 Ran answer ListTooLong old new = WroteWhole (answer ListTooLong) old new
 Ran answer ReadFault old new = new ≡ old
 Ran answer WriteFault old new = WroteFront answer old new
@@ -35,6 +36,7 @@ abbrev pub Wrote : (Status → List ℕ → Type 0) → ℕ → ℕ → Status
 Wrote answer before after Answered old new = WroteWhole (answer Answered) old new
 Wrote answer before after Words old new = WroteWhole (answer Words) old new
 Wrote answer before after (Input fault) old new = WroteWhole (answer (Input fault)) old new
+Wrote answer before after Budget old new = WroteWhole (answer Budget) old new
 Wrote answer before after ListTooLong old new = WroteWhole (answer ListTooLong) old new
 Wrote answer before after ReadFault old new = ⊥
 Wrote answer before after WriteFault old new = HasFault before after × WroteFront answer old new
@@ -61,6 +63,7 @@ abbrev pub code_of : Status → ℕ
 code_of Answered = 0
 code_of Words = 2
 code_of (Input fault) = 3
+code_of Budget = 5
 code_of ListTooLong = 6
 code_of ReadFault = 7
 code_of WriteFault = 8

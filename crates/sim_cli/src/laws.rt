@@ -4,8 +4,10 @@ ghost use Rattle.sim_cli.specs.declared.status.Status.{Status as StatusData};
 ghost use Rattle.sim_cli.specs.Answer.{IsAnswer};
 
 use command_words::laws::one_meaning;
-use ground_list_laws::laws::{one_ground_list, one_marked_ground_list};
-use potential_table::laws::{no_fault, one_fault, one_problem};
+use ground_state::laws::one_answer as one_solution;
+use sim_report::laws::one_ground_text;
+use sim_report_json::laws::one_ground_json;
+use task_input::laws::{no_fault, one_fault, one_input};
 
 /// For each list of words and each input at most one status and one text are due.
 pub fn one_answer()
@@ -13,9 +15,10 @@ pub fn one_answer()
         → IsAnswer words bytes s t → IsAnswer words bytes r u → (s ≡ r) × (t ≡ u) }
 {
     one_meaning();
-    one_problem();
+    one_input();
     one_fault();
     no_fault();
-    one_ground_list();
-    one_marked_ground_list();
+    one_solution();
+    one_ground_text();
+    one_ground_json();
 }

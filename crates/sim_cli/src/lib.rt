@@ -1,9 +1,9 @@
 //! The top call: what the program does with its words, its input and its output.
 #![tactic(auto)]
 
-mod input;
 pub mod laws;
 mod output;
+mod report;
 mod status;
 mod task;
 mod top;
@@ -11,6 +11,3 @@ mod top;
 pub use fault_lines::InputFault;
 pub use status::{Status, code};
 pub use top::run;
-
-/// The most sites of a problem that is solved.
-pub const MAX_SOLVED_SITES: usize = 8;

@@ -12,6 +12,8 @@ pub enum Status {
     Words,
     /// The input is refused.
     Input(InputFault),
+    /// The search would take more nodes than the limit of the words.
+    Budget,
     /// The ground list has more than 4,096 entries.
     ListTooLong,
     /// A read failed.
@@ -30,6 +32,7 @@ pub fn code(status: &Status) -> u8
         Status::Answered => 0,
         Status::Words => 2,
         Status::Input(_) => 3,
+        Status::Budget => 5,
         Status::ListTooLong => 6,
         Status::ReadFault => 7,
         Status::WriteFault => 8,

@@ -3,12 +3,14 @@ ghost use Rattle.std.specs.Io.KnownBytes.{IsAtEnd};
 ghost use Rattle.sidb_io.specs.Outside.{HasFault};
 ghost use Rattle.command_words.specs.declared.settings.Settings.{Settings};
 ghost use Rattle.command_words.specs.Settings.{IsSettingsOf};
-ghost use Rattle.sim_cli.specs.Answer.{IsAnswer, PrintsGroundStates};
+ghost use Rattle.sim_cli.specs.Answer.{IsAnswer};
+ghost use Rattle.sim_cli.specs.Headline.{TellsGroundStates};
 ghost use Rattle.sim_cli.specs.Run.{IsReadFault, IsUnread, Ran, WroteWhole};
 
 use crate::Status;
 use crate::output::refuse_words;
 use crate::task::answer_task;
+use command_words::laws::one_meaning;
 use command_words::read_words;
 use ground_list_laws::laws::{
     certain_entries_are_ground_states, ground_states_are_listed, unresolved_entries_fail,
@@ -17,13 +19,16 @@ use sidb_io::{Gate, Sink, Source};
 use sidb_units::WordList;
 use std::alloc::Global;
 use std::thread::Threads;
+use task_input::laws::spans_hold_distances;
 
 /// Reads the words, and answers what they ask for.
-fn answer_words<S: Source, K: Sink>(
+fn answer_words<R: Threads + Sync, S: Source, K: Sink, G: Gate>(
+    rt: &R,
     alloc: Global,
     words: &WordList,
     source: &mut S,
     sink: &mut K,
+    gate: &G,
 ) -> Status
     ensures answer { IfSome (S.left source.old) (λ bytes. Ran (IsAnswer words.now bytes)
         result (K.written sink.old) (K.written sink.new)) }
@@ -38,7 +43,7 @@ fn answer_words<S: Source, K: Sink>(
         → ((settings : Settings) × IsSettingsOf words.now settings) }
 {
     match read_words(alloc, words) {
-        Ok(Some(settings)) => answer_task(alloc, &settings, source, sink),
+        Ok(Some(settings)) => answer_task(rt, alloc, &settings, source, sink, gate),
         Ok(None) => refuse_words(sink),
         Err(_) => Status::Memory,
     }
@@ -47,8 +52,9 @@ fn answer_words<S: Source, K: Sink>(
 /// All that the program does with the words after its name: it reads its input to the end and
 /// writes the answer, or the line of a fault.
 ///
-/// The first refusal decides: of the words, a failed read, of the input, a failed write. Where
-/// memory does not suffice, what was written is the first bytes of the text that was to be written.
+/// The first refusal decides: of the words, a failed read, of the input, the limit of nodes, a list
+/// that is too long, a failed write. Where memory does not suffice, what was written is the first
+/// bytes of the text that was to be written.
 pub fn run<R: Threads + Sync, S: Source, K: Sink, G: Gate>(
     rt: &R,
     alloc: Global,
@@ -60,7 +66,7 @@ pub fn run<R: Threads + Sync, S: Source, K: Sink, G: Gate>(
     ensures answer { IfSome (S.left source.old) (λ bytes. Ran (IsAnswer words.now bytes)
         result (K.written sink.old) (K.written sink.new)) }
     ensures each_table { result ≡ Status.Answered → IfSome (S.left source.old) (λ bytes.
-        WroteWhole (PrintsGroundStates bytes) (K.written sink.old) (K.written sink.new)) }
+        WroteWhole (TellsGroundStates words.now bytes) (K.written sink.old) (K.written sink.new)) }
     ensures read_fault { result ≡ Status.ReadFault
         → IsReadFault words.now (S.faults source.old) (S.faults source.new) }
     ensures write_fault { result ≡ Status.WriteFault
@@ -69,10 +75,10 @@ pub fn run<R: Threads + Sync, S: Source, K: Sink, G: Gate>(
     ensures unread { result ≡ Status.Words → IsUnread (S.left source.old) (S.left source.new)
         (S.faults source.old) (S.faults source.new) }
 {
-    let _ = rt;
-    let _ = gate;
+    one_meaning();
+    spans_hold_distances();
     ground_states_are_listed();
     certain_entries_are_ground_states();
     unresolved_entries_fail();
-    answer_words(alloc, words, source, sink)
+    answer_words(rt, alloc, words, source, sink, gate)
 }

@@ -1,29 +1,23 @@
-use Rattle.std.proofs.Common.{length, ◌≤◌, arith, ◌∙◌, ap, refl, inl, inr}
-use Rattle.std.proofs.lemmas.List.{length-map}
-use Rattle.prune_certificate.specs.Seen.{seen}
-use Rattle.sidb_units.specs.declared.TheConstants.{MAX_ENTRIES}
-use Rattle.sim_report.specs.GroundText.{ground_text}
-use Rattle.sim_cli.specs.Answer.{IsGroundAnswer}
-use Rattle.sim_cli.proofs.Writing.{wrote_answered, wrote_list_too_long}
+use Rattle.std.proofs.Common.{◌∙◌, arith, inl, inr, refl}
+use Rattle.sim_cli.specs.Answer.{IsBudgetAnswer, IsGroundAnswer}
+use Rattle.sim_cli.proofs.Writing.{wrote_also, wrote_list_too_long}
 use Rattle.sim_cli.proofs.output.answer_ground.Goals as goal
 
-pub returns-in-Ok : goal.returns-in-Ok
-returns-in-Ok g c =
-    let prints = c.as_str.ensures.value ∙ c.in-Ok.ensures ∙ ap (λ n. ground_text n c.in-List.list) c.sites.ensures.value in
-    let whole = length-map c.list.inside.entries.items seen in
-    let same = ap length c.list.view_is in
-    let bound = c.list.invariant in
-    let few : length c.in-List.list ≤ MAX_ENTRIES = omega (arith, whole, same, bound) in
-    wrote_answered (IsGroundAnswer c.args.problem.now) _ _ _ _ _ _ (inl (
-      refl,
-      record {
-        entries = c.in-List.list;
-        list = c.in-List.ensures.answer;
-        few = few;
-        prints = prints;
-      },
-    )) c.written.ensures
+pub answer_list-requires-clause-budget : goal.answer_list-requires-clause-budget
+answer_list-requires-clause-budget g c =
+    let solution = c.in-List.ensures.answer in
+    (c.in-List.solved.bound, solution.bound, omega (arith, solution.nodes, solution.within))
+
+pub answer_list-requires-clause-list : goal.answer_list-requires-clause-list
+answer_list-requires-clause-list g c = c.in-List.ensures.answer.list
+
+pub returns-in-Budget : goal.returns-in-Budget
+returns-in-Budget g c =
+    let s = c.args.settings.now in
+    let input = c.args.input.now in
+    wrote_also (IsBudgetAnswer s.limit) (IsGroundAnswer s input.about input.problem)
+    (λ status text is. inr (inl (c.in-Budget.ensures.answer, is))) _ _ _ _ _ c.answer_budget.ensures
 
 pub returns-in-ListTooLong : goal.returns-in-ListTooLong
 returns-in-ListTooLong g c =
-    wrote_list_too_long (IsGroundAnswer c.args.problem.now) _ _ _ _ _ _ (inr (refl, c.in-ListTooLong.ensures.answer, c.list_too_long_line.ensures)) c.written-in-ListTooLong.ensures
+    wrote_list_too_long (IsGroundAnswer c.args.settings.now c.args.input.now.about c.args.input.now.problem) _ _ _ _ _ _ (inr (inr (refl, c.in-ListTooLong.ensures.answer, c.as_bytes.ensures.value ∙ c.list_too_long_line.ensures))) c.written.ensures

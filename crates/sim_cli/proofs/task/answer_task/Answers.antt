@@ -14,4 +14,4 @@ pub returns-in-Err-TooLong-clause-answer : goal.returns-in-Err-TooLong-clause-an
 returns-in-Err-TooLong-clause-answer g c =
     let gave = c.in-Err-TooLong.ensures.too_long (ap Err c.in-Err-TooLong.field-0-is) in
     told_more _ _ _ _ gave.0 gave.2 gave.1 (λ all more. ran_wrote (IsTaskAnswer c.args.settings.now all) _ _ _ _ _
-    (wrote_also (IsFaultAnswer TooLong) (IsTaskAnswer c.args.settings.now all) (λ status text is. inl (TooLong, more, is)) _ _ _ _ _ c.refuse_input.ensures))
+    (wrote_also (IsFaultAnswer TooLong) (IsTaskAnswer c.args.settings.now all) (λ status text is. inl (record { fault = TooLong; refuses = more; tells = is })) _ _ _ _ _ c.refuse_input.ensures))
