@@ -1,9 +1,8 @@
 -- the least certain energy, by going through all charge lists
-use Rattle.std.proofs.Common.{◌≡◌, ◌≢◌, ℕ, zero, suc, ◌+◌, ◌<◌, List, [], ◌∷◌, ◌++◌, length, ℤ, pos, ◌*ℤ◌, ◌≤ℤ◌, refl, sym, ap, subst, ◌∙◌, arith, Bool, true, false, ◌⊎◌, inl, inr, Some, append_assoc, length-append}
+use Rattle.std.proofs.Common.{◌≡◌, ℕ, zero, suc, ◌+◌, ◌<◌, List, [], ◌∷◌, ◌++◌, length, ℤ, pos, ◌*ℤ◌, ◌≤ℤ◌, refl, sym, ap, subst, ◌∙◌, arith, Bool, true, false, ◌⊎◌, inl, inr, Some, append_assoc, length-append}
 use Rattle.std.specs.Prelude.{int_le, Option, None}
 use Rattle.std.proofs.lemmas.Int.{ints}
 use Rattle.std.proofs.lemmas.List.{append-nil}
-use Rattle.std.proofs.lemmas.Bool.{cases_eq}
 use Rattle.charge_model.specs.declared.charge.Charge.{Charge}
 use Rattle.charge_model.specs.declared.charge.Charge.TheVariants.{Neg, Neutral, Pos}
 use Rattle.charge_model.specs.Charges.{IsOfBase}
@@ -11,7 +10,8 @@ use Rattle.charge_model.specs.Problem.{Problem, IsProblem, IsGreatest}
 use Rattle.charge_model.specs.Rules.{IsChargeList, IsCertainlyValid, energy}
 use Rattle.charge_model.specs.Tree.{IsGreatestOf, IsAttained, IsLeastCertain}
 use Rattle.certain_energy_laws.proofs.Extremes.{greatest_energy}
-use Rattle.certain_energy_laws.proofs.Decisions.{Decided, both_decided, certain_decided}
+use Rattle.certain_energy_laws.proofs.Decisions.{Decided, certain_decided}
+use Rattle.certain_energy_laws.proofs.Lists.{of_base_decided}
 
 -- no list of a set is certainly valid
 abbrev NoneIn : Problem → (List Charge → Type 0) → Type 0
@@ -35,16 +35,6 @@ same_greatest p c a b x y =
     let at = x.reached in
     let bound = subst (λ s. energy p at.0 c ≤ℤ (pos s *ℤ b)) at.2.0 (y.bounds at.0 at.1) in
     let same = at.2.1 in omega (arith, ints, bound, same)
-
-of_base_decided : (base : ℕ) (q : List Charge) → Decided (IsOfBase base q)
-of_base_decided base [] = inl tt
-of_base_decided base (x ∷ q) = both_decided (base ≡ 2 → x ≢ Pos) (IsOfBase base q) (first x (cases_eq base 2)) (of_base_decided base q)
-  where
-    first : (x : Charge) → (base ≡ 2) ⊎ (base ≢ 2) → Decided (base ≡ 2 → x ≢ Pos)
-    first Neg two = inl (λ _ e. absurd (cc))
-    first Neutral two = inl (λ _ e. absurd (cc))
-    first Pos (inl two) = inr (λ h. h two refl)
-    first Pos (inr three) = inl (λ two. absurd (three two))
 
 -- the one list that begins with a full prefix
 settled_full : (p : Problem) (q : List Charge) → IsProblem p → length q ≡ p.sites → IsSettled p (Begins q)

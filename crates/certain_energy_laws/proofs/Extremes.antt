@@ -1,5 +1,5 @@
 -- the least and the greatest value of a linear quantity
-use Rattle.std.proofs.Common.{◌≡◌, ℕ, List, length, ℤ, pos, ◌+ℤ◌, ◌*ℤ◌, ◌≤ℤ◌, refl, arith, Bool, true, false, cond}
+use Rattle.std.proofs.Common.{◌≡◌, ℕ, List, length, ℤ, pos, ◌+ℤ◌, ◌-ℤ◌, ◌*ℤ◌, ◌≤ℤ◌, refl, arith, Bool, true, false, cond}
 use Rattle.std.specs.Prelude.{int_le}
 use Rattle.std.proofs.lemmas.Int.{ints}
 use Rattle.std.proofs.Math.IntN.{*ℤ_comm}
@@ -9,7 +9,7 @@ use Rattle.charge_model.specs.Rules.{sum_below, energy, slack, Inequality, IsIne
 use Rattle.charge_model.specs.Prefixes.{least_product, greatest_product}
 use Rattle.charge_model.proofs.Sums.{mul-add, sum_below-same}
 use Rattle.charge_model.proofs.Products.{least_product-le, le-greatest_product, scaled_sum-le, le-scaled_sum}
-use Rattle.certain_energy_laws.proofs.Linear.{IsLinear, energy_linear, slack_linear}
+use Rattle.certain_energy_laws.proofs.Linear.{IsLinear, linear_minus, energy_linear, slack_linear}
 
 -- one of the two ends of a class's span
 end_of : Problem → (ℕ → Bool) → ℕ → ℤ
@@ -103,5 +103,24 @@ greatest_of_linear p f is a = (
 pub greatest_energy : (p : Problem) (c : List Charge) → IsProblem p → (greatest : ℤ) × IsGreatest p (λ t. energy p t c) greatest
 greatest_energy p c is = greatest_of_linear p (λ t. energy p t c) is (energy_linear p c is)
 
+-- energies have a least value too
+pub least_energy : (p : Problem) (c : List Charge) → IsProblem p → (least : ℤ) × IsLeast p (λ t. energy p t c) least
+least_energy p c is = least_of_linear p (λ t. energy p t c) is (energy_linear p c is)
+
+-- slacks have a least and a greatest value
 pub least_slack : (p : Problem) (c : List Charge) (q : Inequality) → IsProblem p → IsInequalityOf p c q → (least : ℤ) × IsLeast p (slack p c q) least
 least_slack p c q is of_list = least_of_linear p (slack p c q) is (slack_linear p c q is of_list)
+
+pub greatest_slack : (p : Problem) (c : List Charge) (q : Inequality) → IsProblem p → IsInequalityOf p c q → (greatest : ℤ) × IsGreatest p (slack p c q) greatest
+greatest_slack p c q is of_list = greatest_of_linear p (slack p c q) is (slack_linear p c q is of_list)
+
+-- the energy of one list less that of another
+difference_linear : (p : Problem) (w c : List Charge) → IsProblem p → IsLinear p (λ t. energy p t w -ℤ energy p t c)
+difference_linear p w c is = linear_minus p (λ t. energy p t w) (λ t. energy p t c) (energy_linear p w is) (energy_linear p c is)
+
+-- differences have a least and a greatest value
+pub least_difference : (p : Problem) (w c : List Charge) → IsProblem p → (least : ℤ) × IsLeast p (λ t. energy p t w -ℤ energy p t c) least
+least_difference p w c is = least_of_linear p (λ t. energy p t w -ℤ energy p t c) is (difference_linear p w c is)
+
+pub greatest_difference : (p : Problem) (w c : List Charge) → IsProblem p → (greatest : ℤ) × IsGreatest p (λ t. energy p t w -ℤ energy p t c) greatest
+greatest_difference p w c is = greatest_of_linear p (λ t. energy p t w -ℤ energy p t c) is (difference_linear p w c is)

@@ -1,4 +1,5 @@
-//! Each problem has a least certain energy, or no certainly valid list.
+//! Energies and slacks have extremes, and so each problem has a least certain energy, or no
+//! certainly valid list.
 #![tactic(auto)]
 
 pub mod laws;
