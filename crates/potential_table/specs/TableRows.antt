@@ -13,24 +13,27 @@ head_lines p = cond (fixed_count p == 0)
     (SecondVersion ∷ Sites (pos p.sites) ∷ Fixed (pos (fixed_count p)) ∷ Base (pos p.base)
     ∷ Levels p.mu_minus p.mu_plus ∷ [])
 
--- a line for each fixed charge, and for each class
+-- a line for each fixed charge
 abbrev pub charge_lines : Problem → List TableLine
 charge_lines p = map Charge p.fixed_charges
 
+-- a line for each class
 abbrev pub class_lines : Problem → List TableLine
 class_lines p = map (λ s. Class s.lo s.hi) p.spans
 
--- the line of a pair of sites, and of a site and a fixed charge
+-- the line of a pair of sites
 abbrev pub pair_line : Problem → ℕ → ℕ → TableLine
 pair_line p i j = Pair (pos i) (pos j) (pos (class_of p i j))
 
+-- the line of a site and a fixed charge
 abbrev pub near_line : Problem → ℕ → ℕ → TableLine
 near_line p i a = Near (pos i) (pos a) (pos (near_class_of p i a))
 
--- the lines of site i with each later site, and with each fixed charge
+-- the lines of site i with each later site
 abbrev pub pairs_from : Problem → ℕ → List TableLine
 pairs_from p i = map (pair_line p i) (range_with_len (suc i) (p.sites - suc i))
 
+-- the lines of site i with each fixed charge
 abbrev pub near_at : Problem → ℕ → List TableLine
 near_at p i = map (near_line p i) (range_with_len 0 (fixed_count p))
 

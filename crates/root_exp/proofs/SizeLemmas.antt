@@ -6,7 +6,7 @@ use Rattle.std.proofs.Math.Nat.{mul-le-mul_right, div-mul-le_self, le_of_mul-le-
 use Rattle.std.proofs.lemmas.Grind.{div_ceil_times}
 use Rattle.std.specs.Int.{div_ceil}
 use Rattle.root_exp.specs.declared.TheConstants.{UNIT}
-use Rattle.root_exp.specs.Series.{sum_to, term_down, term_up}
+use Rattle.root_exp.specs.Series.{AreSized, bits_for, sum_to, term_down, term_up}
 use Rattle.root_exp.proofs.TermLemmas.{positive_step}
 
 -- what bounds term i, where the argument is at most `steps` units: the unit is divided out
@@ -151,3 +151,15 @@ first-le-sum f (suc k) = omega (arith, first-le-sum f k)
 pub first-down : (first x k : ℕ) → first ≤ sum_to (term_down first x) k
 unfolding term_down
 first-down first x k = first-le-sum (term_down first x) k
+
+-- the sums of two arguments have their sizes
+pub sums_sized : (x_down x_up : ℕ) → x_down ≤ x_up → 1 ≤ x_up → x_up ≤ 25 * UNIT
+    → AreSized (bits_for x_up) (sum_to (term_down (2 ^ bits_for x_up) x_down) 96) (sum_to (term_up (2 ^ bits_for x_up) x_up) 96 + 2 * term_up (2 ^ bits_for x_up) x_up 97)
+sums_sized x_down x_up order positive small =
+    let ceil = div_ceil_times x_up UNIT (omega arith) in
+    let few : div_ceil x_up UNIT ≤ 25 = omega (arith, ceil.1) in
+    record {
+      one = first-down (2 ^ bits_for x_up) x_down 96;
+      order = omega (arith, sum_down-up (2 ^ bits_for x_up) x_down x_up 96 order);
+      fits = sums_small (div_ceil x_up UNIT) x_up few ceil.0;
+    }

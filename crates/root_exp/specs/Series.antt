@@ -18,10 +18,11 @@ unfoldable pub sum_to : (ℕ → ℕ) → ℕ → ℕ
 sum_to term zero = term zero
 sum_to term (suc k) = sum_to term k + term (suc k)
 
--- the bits after the point for an argument of at most this many whole units, and the term 0
+-- the bits after the point for an argument of at most this many whole units
 abbrev pub bits_at : ℕ → ℕ
 bits_at steps = 60 - 2 * steps
 
+-- the term 0 with so many bits
 abbrev pub first_for : ℕ → ℕ
 first_for steps = 2 ^ bits_at steps
 
@@ -55,5 +56,6 @@ abbrev pub closed_sum : ℕ → ℕ → ℕ → ℕ
 closed_sum p q k =
     series_sum p q k * (suc k * q) * rest_of p q k + p ^ suc k * (suc (suc k) * q)
 
+-- the divisor of the closed sum
 abbrev pub closed_divisor : ℕ → ℕ → ℕ → ℕ
 closed_divisor p q k = divisor_of q (suc k) * rest_of p q k

@@ -6,3 +6,5 @@ pub mod OneProblem
 pub mod StandardFacts
 pub mod Refusals
 pub mod LayoutLemmas
+pub mod SpanExists
+pub mod ProblemExists

@@ -5,13 +5,15 @@ use Rattle.root_exp.specs.Root.{IsRoot}
 use Rattle.root_exp.specs.Series.{closed_divisor, closed_sum, divisor_of, series_sum}
 use Rattle.screened_coulomb.specs.declared.params.Params.{Params}
 
--- K·10^12, eps and lam
+-- K·10^12, K being in 10^-6 V·Å
 abbrev pub coulomb_of : Params → ℕ
 coulomb_of p = unsigned_abs p.coulomb * 10 ^ 12
 
+-- eps, in 10^-4
 abbrev pub eps_of : Params → ℕ
 eps_of p = unsigned_abs p.eps
 
+-- lam, in 10^-4 nm
 abbrev pub lam_of : Params → ℕ
 lam_of p = unsigned_abs p.lam
 
@@ -20,17 +22,19 @@ pub record Fraction : Type 0 where
   pub top : ℕ
   pub bottom : ℕ
 
--- the number is at most the fraction, and at least it
+-- the number is at most the fraction
 abbrev pub IsAtMost : ℤ → Fraction → Type 0
 IsAtMost z f = (z *ℤ pos f.bottom) ≤ℤ pos f.top
 
+-- the number is at least the fraction
 abbrev pub IsAtLeast : ℤ → Fraction → Type 0
 IsAtLeast z f = pos f.top ≤ℤ (z *ℤ pos f.bottom)
 
--- at the root a of order k the argument of the series is 10·a / (2^k·lam): its top and its bottom
+-- at the root a of order k the argument of the series is 10·a / (2^k·lam): its top
 abbrev pub top_of : ℕ → ℕ
 top_of a = 10 * a
 
+-- its bottom
 abbrev pub bottom_of : ℕ → ℕ → ℕ
 bottom_of lam k = 2 ^ k * lam
 
@@ -57,6 +61,7 @@ high_of coulomb eps lam k a = record {
   bottom = eps * a * series_sum (top_of a) (bottom_of lam k) k;
 }
 
+-- the upper end of the interval of order k, in 10^-12 V
 abbrev pub high_at_order : Params → ℕ → ℕ → Fraction
 high_at_order p k a = high_of (coulomb_of p) (eps_of p) (lam_of p) k a
 

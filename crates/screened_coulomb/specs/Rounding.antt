@@ -7,31 +7,35 @@ use Rattle.root_exp.specs.Series.{bits_for, sum_to, term_down, term_up}
 use Rattle.screened_coulomb.specs.declared.params.Params.{Params}
 use Rattle.screened_coulomb.specs.Potential.{coulomb_of, eps_of, lam_of}
 
--- the argument 10·√D / lam at the root of 40 bits, in units of 2^-60, rounded down and up
+-- the argument 10·√D / lam at the root of 40 bits, in units of 2^-60, rounded down
 abbrev pub argument_down_of : Params → ℕ → ℕ
 argument_down_of p root = 10 * root * 2 ^ 20 / lam_of p
 
+-- the same rounded up
 abbrev pub argument_up_of : Params → ℕ → ℕ
 argument_up_of p root = 10 * (root + 1) * 2 ^ 20 / lam_of p + 1
 
--- K·10^12 / (eps·√D), in units of 2^-23, rounded down and up
+-- K·10^12 / (eps·√D), in units of 2^-23, rounded down
 abbrev pub quotient_down_of : Params → ℕ → ℕ
 quotient_down_of p root = coulomb_of p * 2 ^ 63 / (eps_of p * (root + 1))
 
+-- the same rounded up
 abbrev pub quotient_up_of : Params → ℕ → ℕ
 quotient_up_of p root = div_ceil (coulomb_of p * 2 ^ 63) (eps_of p * root)
 
--- the sums of the exponential with f bits, rounded down and up
+-- the sum of the exponential with f bits, rounded down
 abbrev pub down_of : ℕ → ℕ → ℕ
 down_of f x = sum_to (term_down (2 ^ f) x) ORDER
 
+-- the same rounded up, with twice the next term for all that follow
 abbrev pub up_of : ℕ → ℕ → ℕ
 up_of f x = sum_to (term_up (2 ^ f) x) ORDER + 2 * term_up (2 ^ f) x (ORDER + 1)
 
--- a quotient divided by a sum with f bits, rounded down and up
+-- a quotient divided by a sum with f bits, rounded down
 abbrev pub lo_of : ℕ → ℕ → ℕ → ℕ
 lo_of quotient f up = quotient * 2 ^ f / (up * 2 ^ 23)
 
+-- the same rounded up
 abbrev pub hi_of : ℕ → ℕ → ℕ → ℕ
 hi_of quotient f down = div_ceil (quotient * 2 ^ f) (down * 2 ^ 23)
 

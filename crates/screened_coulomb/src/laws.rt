@@ -1,11 +1,13 @@
-ghost use Rattle.std.specs.Prelude.{◌≡◌, ℕ, ℤ};
-ghost use Rattle.charge_model.specs.Problem.{Problem};
-ghost use Rattle.sidb_layout.specs.Layout.{Arrangement};
+ghost use Rattle.std.specs.Prelude.{◌≡◌, ◌≤◌, ℕ, ℤ};
+ghost use Rattle.charge_model.specs.Problem.{Problem, IsProblem};
+ghost use Rattle.sidb_layout.specs.Layout.{Arrangement, IsLayout};
 ghost use Rattle.screened_coulomb.specs.declared.params.Params.{Params};
-ghost use Rattle.screened_coulomb.specs.Layouts.{IsProblemOf};
+ghost use Rattle.screened_coulomb.specs.Layouts.{HoldsDistances, IsClassSpan, IsProblemOf};
 ghost use Rattle.screened_coulomb.specs.Rounding.{IsRoundedSpan};
 
-use sidb_lattice::laws::one_classing;
+use root_exp::laws::{roots_exist, rounded_sums_are_sized, rounded_sums_enclose_the_series};
+use sidb_lattice::LEAST_SQUARED_DISTANCE;
+use sidb_lattice::laws::{each_layout_has_classes, one_classing};
 
 /// The rounding rule gives one span for a squared distance.
 pub fn one_rounded_span()
@@ -19,4 +21,25 @@ pub fn one_problem()
         → IsProblemOf layout p b → a ≡ b }
 {
     one_classing();
+}
+
+/// Each squared distance that two places of a layout may have has a span, which holds it.
+pub fn each_distance_has_a_span()
+    ensures { (p : Params) (d : ℕ) → LEAST_SQUARED_DISTANCE ≤ d
+        → (lo : ℤ) × (hi : ℤ) × IsClassSpan p d lo hi }
+{
+    roots_exist();
+    rounded_sums_are_sized();
+    rounded_sums_enclose_the_series();
+}
+
+/// Each layout has a problem by each parameters, whose spans hold the distances of its pairs.
+pub fn each_layout_has_a_problem()
+    ensures { (layout : Arrangement) (p : Params) → IsLayout layout
+        → (q : Problem) × IsProblemOf layout p q × HoldsDistances layout p q × IsProblem q }
+{
+    roots_exist();
+    rounded_sums_are_sized();
+    rounded_sums_enclose_the_series();
+    each_layout_has_classes();
 }

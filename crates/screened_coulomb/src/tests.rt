@@ -2,7 +2,7 @@ ghost use Rattle.std.specs.Prelude.{pos, ◌^◌, ◌≤◌, ◌≤ℤ◌, ◌<�
 
 use crate::{Params, params_of, problem, span_of};
 use fixed_enclosure::span_between;
-use sidb_lattice::{LEAST_SQUARED_DISTANCE, Site, layout_of};
+use sidb_lattice::{Fix, LEAST_SQUARED_DISTANCE, Site, layout_with};
 use std::test::Fail;
 
 /// The usual parameters with this screening length.
@@ -50,20 +50,28 @@ fn spans_are_narrow(rt: HostRuntime) -> Result<(), Fail> {
     Ok(())
 }
 
-/// Three neighbours along a row.
+/// Three neighbours along a row, and a fixed charge behind them.
 #[test]
 fn three_neighbours(rt: HostRuntime) -> Result<(), Fail> {
     let p = with_lam(50_000).ok_or("range")?;
-    let layout = layout_of(rt.alloc(), &[site(0), site(1), site(2)])?;
+    let fix = Fix {
+        site: site(3),
+        charge: -1,
+    };
+    let sites = [site(0), site(1), site(2)];
+    let layout = layout_with(rt.alloc(), sites.as_slice(), [fix].as_slice())?;
     let made = problem(rt.alloc(), &layout, &p)?;
     assert_eq!(rt;
         (made.sites(), made.mu_minus(), made.mu_plus()),
         (3, -320_000_000_000, -910_000_000_000)
     );
     assert_eq!(rt; made.pair_classes(), [0, 1, 0].as_slice());
+    assert_eq!(rt; made.fixed_charges(), [-1].as_slice());
+    assert_eq!(rt; made.near_classes(), [2, 1, 0].as_slice());
     let spans = [
         span_between(620_124_254_312, 620_124_254_313),
         span_between(287_140_799_939, 287_140_799_940),
+        span_between(177_275_953_792, 177_275_953_793),
     ];
     assert_eq!(rt; made.spans(), spans.as_slice());
     Ok(())

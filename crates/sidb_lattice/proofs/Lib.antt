@@ -5,5 +5,8 @@ pub mod Rising
 pub mod Assembled
 pub mod SamePlaces
 pub mod OneClassing
+pub mod Small
+pub mod Merged
+pub mod Exists
 mod StandardFacts
 mod Refusals

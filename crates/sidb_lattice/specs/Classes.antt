@@ -58,10 +58,11 @@ pub record IsClassing (c : Classing) : Type 0 where
   pub rising : IsStrictlyIncreasing c.distances
   pub in_range : All IsDistance c.distances
 
--- the squared distance of sites i and j, and that of site i and fixed charge a
+-- the squared distance of sites i and j, in (10^-2 Å)²
 abbrev pub pair_distance : Arrangement → ℕ → ℕ → ℕ
 pair_distance p i j = squared_distance p.lattice (place_at p.sites i) (place_at p.sites j)
 
+-- the squared distance of site i and fixed charge a, in (10^-2 Å)²
 abbrev pub near_distance : Arrangement → ℕ → ℕ → ℕ
 near_distance p i a =
     squared_distance p.lattice (place_at p.sites i) (place_at (places_of_fixes p.fixes) a)

@@ -1,5 +1,5 @@
 ghost use Rattle.std.specs.Prelude.{◌≡◌, ◌↔◌, ℕ, List, slice_get, Some};
-ghost use Rattle.sidb_layout.specs.Layout.{Arrangement};
+ghost use Rattle.sidb_layout.specs.Layout.{Arrangement, IsLayout};
 ghost use Rattle.sidb_lattice.specs.Classes.{Classing, IsClassing, AreClasses};
 
 /// Two classes are equal exactly where their squared distances are.
@@ -20,4 +20,9 @@ pub fn one_list_of_distances()
 #[tactic(auto, using(crate::proofs::OneClassing::one_classing))]
 pub fn one_classing()
     ensures { (p : Arrangement) (c e : Classing) → AreClasses p c → AreClasses p e → c ≡ e }
+{}
+
+/// Each layout has a list of classes.
+pub fn each_layout_has_classes()
+    ensures { (p : Arrangement) → IsLayout p → (c : Classing) × AreClasses p c }
 {}

@@ -36,10 +36,11 @@ silicon = record {
   y_offset = lit≤ tt;
 }
 
--- where a place lies along x and along y
+-- where a place lies along x, in 10^-2 Å
 abbrev pub x_of : Lattice → Site → ℤ
 x_of v s = ((s.n *ℤ v.ax) +ℤ (s.m *ℤ v.bx)) +ℤ (s.l *ℤ v.cx)
 
+-- where a place lies along y, in 10^-2 Å
 abbrev pub y_of : Lattice → Site → ℤ
 y_of v s = ((s.n *ℤ v.ay) +ℤ (s.m *ℤ v.by)) +ℤ (s.l *ℤ v.cy)
 

@@ -13,3 +13,5 @@ pub mod OneProblem
 pub mod LineReadings
 pub mod Filling
 pub mod Exists
+pub mod StandardFacts
+pub mod Refusals

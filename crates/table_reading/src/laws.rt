@@ -8,7 +8,8 @@ use text_rows::laws::{each_text_has_rows, each_word_is_read};
 
 /// A text is the table text of one problem at most.
 pub fn one_problem()
-    ensures { (text : List ℕ) (p q : ProblemData) → IsTableText text p → IsTableText text q → p ≡ q }
+    ensures { (text : List ℕ) (p q : ProblemData)
+        → IsTableText text p → IsTableText text q → p ≡ q }
 {}
 
 /// A text has one first fault at most.

@@ -40,7 +40,8 @@ plain_is word n short e = ap plain_value e ∙ ap pos (decimal_is_IsNumeral n (o
 minus_is : (word : List ℕ) (n : ℕ) → IsShort (negsuc n) → word ≡ signed_decimal (negsuc n) → minus_value word ≡ negsuc n
 minus_is word n short e = ap minus_value e ∙ ap (λ m. neg_ℤ (pos m)) (decimal_is_IsNumeral (suc n) (omega (arith, short))).1
 
-neither : (word : List ℕ) → (IsShort (plain_value word) → word ≡ signed_decimal (plain_value word) → ⊥) → (IsShort (minus_value word) → word ≡ signed_decimal (minus_value word) → ⊥) → (z : ℤ) → IsShort z → word ≡ signed_decimal z → ⊥
+-- a word that is neither number is none
+pub neither : (word : List ℕ) → (IsShort (plain_value word) → word ≡ signed_decimal (plain_value word) → ⊥) → (IsShort (minus_value word) → word ≡ signed_decimal (minus_value word) → ⊥) → (z : ℤ) → IsShort z → word ≡ signed_decimal z → ⊥
 neither word plain minus (pos n) short e =
     let same = plain_is word n short e in
     plain (subst IsShort (sym same) short) (e ∙ ap signed_decimal (sym same))

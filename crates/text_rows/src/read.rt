@@ -17,7 +17,8 @@ fn find(text: &[u8], byte: u8) -> Option<usize>
     text.iter().position(|b| *b == byte)
 }
 
-/// What stands before the first such byte, and what behind it, or `None` where there is no such byte.
+/// What stands before the first such byte, and what behind it, or `None` where there is no such
+/// byte.
 pub fn cut(text: &[u8], byte: u8) -> Option<(&[u8], &[u8])>
     ensures parts { IfSome result (λ parts.
         slice_split (λ b. eqb b byte) text.now
@@ -31,8 +32,8 @@ pub fn cut(text: &[u8], byte: u8) -> Option<(&[u8], &[u8])>
     }
 }
 
-/// The whole number that the word is: an optional `-` and one to seventeen digits, without a leading
-/// zero unless it is `0`, and never `-0`.
+/// The whole number that the word is: an optional `-` and one to seventeen digits, without a
+/// leading zero unless it is `0`, and never `-0`.
 pub fn number_of(alloc: Global, word: &[u8]) -> Result<Option<i64>, Memory>
     ensures { IfOk result (λ number. IsNumber word.now number) }
 {
