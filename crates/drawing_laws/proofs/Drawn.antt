@@ -94,7 +94,7 @@ IsDrawnOrFaulty text =
 settled : IsRoomy → (text : List ℕ) (dots : List Dot) (skipped : ℕ) → IsDrawing text dots skipped → IsMadeOrRefused silicon (sites_in dots) []
     → IsDrawnOrFaulty text
 settled roomy text dots skipped drawing (inl (p, made, none)) =
-    inl (p, skipped, record { dots = dots; drawing = drawing; unrefused = none; made = made })
+    inl (p, skipped, record { dots = dots; drawing = drawing; made = made })
 settled roomy text dots skipped drawing (inr (r, refused)) =
     let fault = dots_fault roomy dots r refused in
     inr (fault.0, inr (record { dots = dots; skipped = skipped; drawing = drawing; found = fault.1 }))

@@ -1,5 +1,5 @@
 -- places and fixed charges make a layout, or have a refusal
-use Rattle.std.proofs.Common.{◌≡◌, ◌≢◌, ℕ, ◌<◌, ◌≤◌, ◌⊎◌, inl, inr, List, length, arith}
+use Rattle.std.proofs.Common.{◌≡◌, ◌≢◌, ℕ, ◌<◌, ◌≤◌, ◌⊎◌, inl, inr, List, length}
 use Rattle.std.specs.Prelude.{AllPairs}
 use Rattle.std.proofs.lemmas.Bool.{cases_lt}
 use Rattle.charge_model.specs.declared.TheConstants.{MAX_SITES, MAX_FIXED}
@@ -7,28 +7,14 @@ use Rattle.sidb_layout.specs.declared.site.Site.{Site}
 use Rattle.sidb_layout.specs.declared.site.Fix.{Fix}
 use Rattle.sidb_layout.specs.declared.lattice.Lattice.{Lattice}
 use Rattle.sidb_layout.specs.declared.fault.LayoutFault.{LayoutFault}
-use Rattle.sidb_layout.specs.declared.fault.LayoutFault.TheVariants.{OutOfRange, TooMany, TooManyFixes, Duplicate, TooClose, Memory}
-use Rattle.sidb_layout.specs.Site.{IsInRange, IsFixInRange, places_of, origin}
+use Rattle.sidb_layout.specs.declared.fault.LayoutFault.TheVariants.{OutOfRange, TooMany, TooManyFixes, Duplicate, TooClose}
+use Rattle.sidb_layout.specs.Site.{places_of}
 use Rattle.sidb_layout.specs.Layout.{Arrangement}
 use Rattle.sidb_layout.specs.Refusal.{IsFirstOutOfRange, IsFirstPair, IsTooClose, AreInRange, AreFew, AreDistinct, IsRefusal, IsMadeOf}
 use Rattle.layout_laws.proofs.Decisions.{same, too_close}
-use Rattle.layout_laws.proofs.Made.{layout_of_clear}
-use Rattle.layout_laws.proofs.Searches.{first_pair_or_none, first_out_or_in_range, none_outside}
-
-no_pair : (R : Site → Site → Type 0) (places : List Site) (i j : ℕ) → AllPairs (λ a b. ¬ R a b) places → IsFirstPair R places i j → ⊥
-no_pair R places i j none f = none i j origin f.earliest.before f.within f.earliest.related
-
--- clear places have no refusal
-unrefused : (v : Lattice) (sites : List Site) (fixes : List Fix) → AreFew sites fixes → AreDistinct (places_of sites fixes)
-    → AllPairs (λ a b. ¬ IsTooClose v a b) (places_of sites fixes) → (f : LayoutFault) → IsRefusal v sites fixes f → ⊥
-unrefused v sites fixes few distinct clear (OutOfRange i) (inl f) = none_outside IsInRange sites i few.in_range.all_sites f.outside
-unrefused v sites fixes few distinct clear (OutOfRange i) (inr (a, e, all, f)) =
-    none_outside IsFixInRange fixes a few.in_range.all_fixes f.outside
-unrefused v sites fixes few distinct clear TooMany h = omega (arith, h.1, few.few_sites)
-unrefused v sites fixes few distinct clear TooManyFixes h = omega (arith, h.2, few.few_fixes)
-unrefused v sites fixes few distinct clear (Duplicate i j) h = no_pair (λ a b. a ≡ b) (places_of sites fixes) i j distinct h.1
-unrefused v sites fixes few distinct clear (TooClose i j) h = no_pair (IsTooClose v) (places_of sites fixes) i j clear h.2
-unrefused v sites fixes few distinct clear Memory h = h
+use Rattle.layout_laws.proofs.Made.{HaveNoDirection, layout_of_clear}
+use Rattle.layout_laws.proofs.Searches.{first_pair_or_none, first_out_or_in_range}
+use Rattle.layout_laws.proofs.Unrefused.{not_refused}
 
 -- one of the two
 abbrev IsEither : Lattice → List Site → List Fix → Type 0
@@ -36,25 +22,26 @@ IsEither v sites fixes =
     ((p : Arrangement) × IsMadeOf v sites fixes p × ((f : LayoutFault) → IsRefusal v sites fixes f → ⊥))
     ⊎ ((f : LayoutFault) × IsRefusal v sites fixes f)
 
-clear_or_close : (v : Lattice) (sites : List Site) (fixes : List Fix) → AreFew sites fixes → AreDistinct (places_of sites fixes) → IsEither v sites fixes
-clear_or_close v sites fixes few distinct = by (first_pair_or_none (IsTooClose v) (too_close v) (places_of sites fixes))
+clear_or_close : HaveNoDirection → (v : Lattice) (sites : List Site) (fixes : List Fix) → AreFew sites fixes → AreDistinct (places_of sites fixes) → IsEither v sites fixes
+clear_or_close turned v sites fixes few distinct = by (first_pair_or_none (IsTooClose v) (too_close v) (places_of sites fixes))
   where
     by : ((i j : ℕ) × IsFirstPair (IsTooClose v) (places_of sites fixes) i j) ⊎ AllPairs (λ a b. ¬ IsTooClose v a b) (places_of sites fixes)
         → IsEither v sites fixes
     by (inl (i, j, f)) = inr (TooClose i j, (few, distinct, f))
     by (inr clear) =
-        let made = layout_of_clear v sites fixes few distinct clear in inl (made.0, made.1, unrefused v sites fixes few distinct clear)
+        let made = layout_of_clear turned v sites fixes few distinct clear in
+        inl (made.0, made.1, not_refused v sites fixes made.0 made.1)
 
-few_settled : (v : Lattice) (sites : List Site) (fixes : List Fix) → AreFew sites fixes → IsEither v sites fixes
-few_settled v sites fixes few = by (first_pair_or_none (λ a b. a ≡ b) same (places_of sites fixes))
+few_settled : HaveNoDirection → (v : Lattice) (sites : List Site) (fixes : List Fix) → AreFew sites fixes → IsEither v sites fixes
+few_settled turned v sites fixes few = by (first_pair_or_none (λ a b. a ≡ b) same (places_of sites fixes))
   where
     by : ((i j : ℕ) × IsFirstPair (λ a b. a ≡ b) (places_of sites fixes) i j) ⊎ AllPairs (λ a b. a ≢ b) (places_of sites fixes)
         → IsEither v sites fixes
     by (inl (i, j, f)) = inr (Duplicate i j, (few, f))
-    by (inr distinct) = clear_or_close v sites fixes few distinct
+    by (inr distinct) = clear_or_close turned v sites fixes few distinct
 
-pub made_or_refused : (v : Lattice) (sites : List Site) (fixes : List Fix) → IsEither v sites fixes
-made_or_refused v sites fixes = by (first_out_or_in_range sites fixes) (cases_lt MAX_SITES (length sites)) (cases_lt MAX_FIXED (length fixes))
+pub made_or_refused : HaveNoDirection → (v : Lattice) (sites : List Site) (fixes : List Fix) → IsEither v sites fixes
+made_or_refused turned v sites fixes = by (first_out_or_in_range sites fixes) (cases_lt MAX_SITES (length sites)) (cases_lt MAX_FIXED (length fixes))
   where
     by : ((i : ℕ) × IsFirstOutOfRange sites fixes i) ⊎ AreInRange sites fixes → (MAX_SITES < length sites) ⊎ (length sites ≤ MAX_SITES)
         → (MAX_FIXED < length fixes) ⊎ (length fixes ≤ MAX_FIXED) → IsEither v sites fixes
@@ -62,4 +49,4 @@ made_or_refused v sites fixes = by (first_out_or_in_range sites fixes) (cases_lt
     by (inr all) (inl many) c = inr (TooMany, (all, many))
     by (inr all) (inr few) (inl many) = inr (TooManyFixes, (all, few, many))
     by (inr all) (inr few) (inr few_fixes) =
-        few_settled v sites fixes (record { in_range = all; few_sites = few; few_fixes = few_fixes })
+        few_settled turned v sites fixes (record { in_range = all; few_sites = few; few_fixes = few_fixes })

@@ -3,4 +3,5 @@ pub mod Sorting
 pub mod RowOrder
 pub mod Made
 pub mod Searches
+pub mod Unrefused
 pub mod Existence

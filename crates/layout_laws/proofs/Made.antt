@@ -1,8 +1,7 @@
 -- clear places make a layout: they in row order
-use Rattle.std.proofs.Common.{◌≡◌, ◌≢◌, ◌+◌, ◌<◌, ◌≤◌, ℤ, ◌⊎◌, inl, inr, List, ◌++◌, length, length-append, get_or, arith, refl, sym, ◌∙◌}
+use Rattle.std.proofs.Common.{◌≡◌, ◌≢◌, ◌+◌, ◌<◌, ◌≤◌, ◌⊎◌, inl, inr, List, ◌++◌, length, length-append, get_or, arith, refl, sym, ◌∙◌}
 use Rattle.std.specs.Prelude.{AllPairs, Contains, IsPermutation}
 use Rattle.std.proofs.lemmas.Bool.{cases_order}
-use Rattle.std.proofs.lemmas.Int.{ints}
 use Rattle.std.proofs.lemmas.List.{get_or_default, get_or_append_left, get_or-append-add}
 use Rattle.std.proofs.lemmas.List.Sorted.{IsPermutation-sym, IsPermutation-map, IsPermutation-append, length_permutation, All-permutation, Contains-permutation}
 use Rattle.sidb_layout.specs.declared.site.Site.{Site}
@@ -10,22 +9,19 @@ use Rattle.sidb_layout.specs.declared.site.Fix.{Fix}
 use Rattle.sidb_layout.specs.declared.lattice.Lattice.{Lattice}
 use Rattle.sidb_layout.specs.declared.TheConstants.{LEAST_SQUARED_DISTANCE}
 use Rattle.sidb_layout.specs.Site.{IsInRange, IsFixInRange, IsRowBefore, places_of, places_of_fixes}
-use Rattle.sidb_layout.specs.Lattice.{squared_distance, gap_of, x_of, y_of}
+use Rattle.sidb_layout.specs.Lattice.{squared_distance}
 use Rattle.sidb_layout.specs.Layout.{Arrangement, AreApart, arrangement_of}
 use Rattle.sidb_layout.specs.Refusal.{AreFew, AreDistinct, IsTooClose, IsMadeOf}
 use Rattle.layout_laws.proofs.Sorting.{pairs_map, pairs_unmap, sorted}
 use Rattle.layout_laws.proofs.RowOrder.{follows, either_before}
 
-gap-turned : (p q : ℤ) → gap_of p q ≡ gap_of q p
-gap-turned p q = omega (arith, ints)
-
-distance-turned : (v : Lattice) (a b : Site) → squared_distance v a b ≡ squared_distance v b a
-unfolding squared_distance
-distance-turned v a b = rw (gap-turned (x_of v a) (x_of v b), gap-turned (y_of v a) (y_of v b)) refl
+-- the law below
+abbrev pub HaveNoDirection : Type 0
+HaveNoDirection = (v : Lattice) (a b : Site) → squared_distance v a b ≡ squared_distance v b a
 
 -- different places are apart where no pair is too close
-apart_from_pairs : (v : Lattice) (places : List Site) → AllPairs (λ a b. ¬ IsTooClose v a b) places → AreApart v places
-apart_from_pairs v places none a b (i, i_within, at_i) (j, j_within, at_j) ne = by (cases_order i j)
+apart_from_pairs : HaveNoDirection → (v : Lattice) (places : List Site) → AllPairs (λ a b. ¬ IsTooClose v a b) places → AreApart v places
+apart_from_pairs turned v places none a b (i, i_within, at_i) (j, j_within, at_j) ne = by (cases_order i j)
   where
     b_at : get_or places j a ≡ b
     b_at = get_or_default places j a b j_within ∙ at_j
@@ -33,7 +29,7 @@ apart_from_pairs v places none a b (i, i_within, at_i) (j, j_within, at_j) ne = 
     by : (i ≡ j) ⊎ ((i < j) ⊎ (j < i)) → LEAST_SQUARED_DISTANCE ≤ squared_distance v a b
     by (inl e) = absurd (ne (sym at_i ∙ (rw e b_at)))
     by (inr (inl l)) = let far = rw (at_i, b_at) at (none i j a l j_within) in omega (arith, far)
-    by (inr (inr l)) = let far = rw (at_i, b_at) at (none j i a l i_within) in omega (arith, far, distance-turned v a b)
+    by (inr (inr l)) = let far = rw (at_i, b_at) at (none j i a l i_within) in omega (arith, far, turned v a b)
 
 distinct_left : (xs ys : List Site) → AreDistinct (xs ++ ys) → AreDistinct xs
 distinct_left xs ys distinct i j d before within same =
@@ -56,9 +52,9 @@ separate xs ys distinct s (i, i_within, at_i) (j, j_within, at_j) =
 back : (xs ys : List Site) → IsPermutation xs ys → (s : Site) → Contains ys s → Contains xs s
 back xs ys moved s c = Contains-permutation ys xs s (IsPermutation-sym xs ys moved) c
 
-pub layout_of_clear : (v : Lattice) (sites : List Site) (fixes : List Fix) → AreFew sites fixes → AreDistinct (places_of sites fixes)
-    → AllPairs (λ a b. ¬ IsTooClose v a b) (places_of sites fixes) → (p : Arrangement) × IsMadeOf v sites fixes p
-layout_of_clear v sites fixes few distinct clear =
+pub layout_of_clear : HaveNoDirection → (v : Lattice) (sites : List Site) (fixes : List Fix) → AreFew sites fixes
+    → AreDistinct (places_of sites fixes) → AllPairs (λ a b. ¬ IsTooClose v a b) (places_of sites fixes) → (p : Arrangement) × IsMadeOf v sites fixes p
+layout_of_clear turned v sites fixes few distinct clear =
     let fix_places = places_of_fixes fixes in
     let own_sites = sorted IsRowBefore follows sites (λ i j d b w. either_before _ _ (distinct_left sites fix_places distinct i j d b w)) in
     let apart_fixes = pairs_unmap (λ a b. a ≢ b) (λ (f : Fix). f.site) fixes (distinct_right sites fix_places distinct) in
@@ -66,7 +62,7 @@ layout_of_clear v sites fixes few distinct clear =
     (λ i j d b w. either_before _ _ (apart_fixes i j d b w)) in
     let places_moved = IsPermutation-map (λ (f : Fix). f.site) fixes own_fixes.0 own_fixes.1.moved in
     let all_moved = IsPermutation-append sites own_sites.0 fix_places (places_of_fixes own_fixes.0) own_sites.1.moved places_moved in
-    let apart = apart_from_pairs v (places_of sites fixes) clear in (
+    let apart = apart_from_pairs turned v (places_of sites fixes) clear in (
       arrangement_of v own_sites.0 own_fixes.0,
       record {
         layout = record {

@@ -31,7 +31,9 @@ pub fn clear_places_make_a_layout()
         → AreDistinct (places_of sites fixes)
         → AllPairs (λ a b. ¬ IsTooClose v a b) (places_of sites fixes)
         → (p : Arrangement) × IsMadeOf v sites fixes p }
-{}
+{
+    sidb_layout::laws::distances_have_no_direction();
+}
 
 /// Places and fixed charges make a layout and have no refusal, or they have a refusal.
 pub fn places_make_a_layout_or_are_refused()
@@ -39,4 +41,12 @@ pub fn places_make_a_layout_or_are_refused()
         → ((p : Arrangement) × IsMadeOf v sites fixes p
         × ((f : LayoutFault) → IsRefusal v sites fixes f → ⊥))
         ⊎ ((f : LayoutFault) × IsRefusal v sites fixes f) }
+{
+    sidb_layout::laws::distances_have_no_direction();
+}
+
+/// Places and fixed charges that make a layout have no refusal.
+pub fn a_layout_is_not_refused()
+    ensures { (v : Lattice) (sites : List Site) (fixes : List Fix) (p : Arrangement)
+        (f : LayoutFault) → IsMadeOf v sites fixes p → IsRefusal v sites fixes f → ⊥ }
 {}

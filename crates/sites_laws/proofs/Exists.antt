@@ -1,5 +1,5 @@
 -- each text is a sites text, or has a first fault
-use Rattle.std.proofs.Common.{◌≡◌, sym, refl, ℕ, ◌+◌, ◌<◌, ◌≤◌, List, length, ◌⊎◌, inl, inr, arith}
+use Rattle.std.proofs.Common.{◌≡◌, refl, ℕ, ◌+◌, ◌<◌, ◌≤◌, List, length, ◌⊎◌, inl, inr, arith}
 use Rattle.std.proofs.lemmas.Bool.{cases_lt}
 use Rattle.charge_model.specs.declared.TheConstants.{MAX_SITES, MAX_FIXED}
 use Rattle.sidb_layout.specs.declared.site.Site.{Site}
@@ -12,12 +12,11 @@ use Rattle.sqd_layout.specs.declared.sites.line.SitesLine.{SitesLine}
 use Rattle.sqd_layout.specs.declared.fault.SqdFault.{SqdFault}
 use Rattle.sqd_layout.specs.declared.fault.SqdFault.TheVariants.{BadLine, OutOfRange, TooMany, TooManyFixes, Duplicate, TooClose}
 use Rattle.sqd_layout.specs.SitesLines.{lines_in, lines_of, sites_of, fixes_of}
-use Rattle.sqd_layout.specs.SitesFaults.{AreFine, IsFirstBad, IsLineInRange, AreLinesInRange, AreFewLines, HasNoClash, IsFirstClash, IsLatticeOf, IsLinesFault, IsLayoutOf, IsSitesText, IsSitesFault}
+use Rattle.sqd_layout.specs.SitesFaults.{AreFine, IsFirstBad, IsLineInRange, AreLinesInRange, AreFewLines, HasNoClash, IsFirstClash, IsLatticeOf, IsClear, IsLinesFault, IsLayoutOf, IsSitesText, IsSitesFault}
 use Rattle.sites_laws.proofs.Decided.{Decided}
 use Rattle.sites_laws.proofs.LawsBelow.{AreLaws}
 use Rattle.sites_laws.proofs.Firsts.{all_or_first, fine_or_bad, none_or_clash}
 use Rattle.sites_laws.proofs.Ranges.{line_decided, some_lattice}
-use Rattle.sites_laws.proofs.Given.{IsTurned, given_pairs, few_places}
 
 -- whether two places are too close
 close_decided : (v : CrystalLattice) (a b : Site) → Decided (IsTooClose v a b)
@@ -27,9 +26,6 @@ close_decided v a b = by (cases_lt (squared_distance v a b) LEAST_SQUARED_DISTAN
     by (inl close) = inl close
     by (inr apart) = inr (λ close. omega (arith, apart, close))
 
-close-turned : AreLaws → (v : CrystalLattice) → IsTurned (IsTooClose v)
-close-turned laws v a b close = omega (arith, laws.distance-turned v a b, close)
-
 -- the lines give a layout, or have a fault
 abbrev HaveReading : List SitesLine → Type 0
 HaveReading ls = ((p : Arrangement) × IsLayoutOf ls p) ⊎ ((fault : SqdFault) × IsLinesFault ls fault)
@@ -38,10 +34,8 @@ HaveReading ls = ((p : Arrangement) × IsLayoutOf ls p) ⊎ ((fault : SqdFault) 
 clear_lines : AreLaws → (ls : List SitesLine) → AreFewLines ls → HasNoClash (λ a b. a ≡ b) ls → (v : CrystalLattice) → IsLatticeOf ls v
     → HasNoClash (IsTooClose v) ls → HaveReading ls
 clear_lines laws ls few distinct v of_lines apart =
-    let made = laws.layout_of_clear v (sites_of ls) (fixes_of ls) (few_places ls few)
-    (given_pairs (λ a b. a ≡ b) (λ a b e. sym e) ls distinct)
-    (given_pairs (IsTooClose v) (close-turned laws v) ls apart) in
-    inl (made.0, record { lattice = v; of_lines = of_lines; clear = record { few = few; distinct = distinct; apart = apart }; made = made.1 })
+    let clear : IsClear v ls = record { few = few; distinct = distinct; apart = apart } in
+    let made = laws.layout_of_clear v ls clear in inl (made.0, record { lattice = v; of_lines = of_lines; clear = clear; made = made.1 })
 
 by_distances : AreLaws → (ls : List SitesLine) → AreFewLines ls → HasNoClash (λ a b. a ≡ b) ls → (v : CrystalLattice) → IsLatticeOf ls v → HaveReading ls
 by_distances laws ls few distinct v of_lines = by (none_or_clash (IsTooClose v) (close_decided v) ls)

@@ -2,5 +2,4 @@ pub mod Decided
 pub mod LawsBelow
 pub mod Firsts
 pub mod Ranges
-pub mod Given
 pub mod Exists

@@ -12,6 +12,5 @@ pub fn each_sites_text_is_read()
     layout_laws::laws::places_are_in_range_or_not();
     layout_laws::laws::fixes_are_in_range_or_not();
     layout_laws::laws::places_are_the_same_or_not();
-    layout_laws::laws::clear_places_make_a_layout();
-    sidb_layout::laws::distances_have_no_direction();
+    sqd_layout::laws::clear_lines_make_a_layout();
 }

@@ -1,7 +1,7 @@
 pub mod Contents
 pub mod FineLines
 pub mod WholeText
-pub mod Unrefused
+pub mod ClearLines
 pub mod OneDrawnLayout
 pub mod OneReading
 mod StandardFacts

@@ -1,5 +1,5 @@
 -- a text draws one layout, or has one first fault
-use Rattle.std.proofs.Common.{◌≡◌, ◌∙◌, refl, sym, ap, subst, ℕ, ◌↔◌, List, [], Option, Some, None, inl, inr, Result, Ok, Err}
+use Rattle.std.proofs.Common.{◌≡◌, ◌∙◌, refl, sym, ap, subst, ℕ, List, [], Option, Some, None, inl, inr}
 use Rattle.std.specs.Prelude.{IsSomeAnd, slice_get}
 use Rattle.sidb_layout.specs.declared.site.Site.{Site}
 use Rattle.sidb_layout.specs.declared.site.Fix.{Fix}
@@ -14,22 +14,7 @@ use Rattle.sqd_dots.specs.declared.fault.DrawingFault.{DrawingFault}
 use Rattle.sqd_dots.specs.Drawings.{IsDrawing, IsDrawingFault}
 use Rattle.sqd_layout.specs.declared.fault.SqdFault.{SqdFault}
 use Rattle.sqd_layout.specs.declared.fault.SqdFault.TheVariants.{OutOfRange, TooMany, Duplicate}
-use Rattle.sqd_layout.specs.DotsFaults.{sites_in, BeginsAt, IsDotsFault, AreUnrefused, IsSqdText, named, IsSqdFault}
-
--- sites whose layout was made are not refused
-pub unrefused : {X : Type 0} (r : Result X LayoutFault) (x : X) (sites : List Site) → r ≡ Ok x
-    → ((fault : LayoutFault) → (fault ≡ refusals.Memory → ⊥) → (r ≡ Err fault) ↔ IsRefusal silicon sites [] fault) → AreUnrefused sites
-unrefused r x sites is h refusals.Memory g = g
-unrefused r x sites is h (refusals.OutOfRange i) g =
-    let err = (h (refusals.OutOfRange i) (λ e. cc e)).1 g in cc (is, err)
-unrefused r x sites is h refusals.TooMany g =
-    let err = (h refusals.TooMany (λ e. cc e)).1 g in cc (is, err)
-unrefused r x sites is h refusals.TooManyFixes g =
-    let err = (h refusals.TooManyFixes (λ e. cc e)).1 g in cc (is, err)
-unrefused r x sites is h (refusals.Duplicate i j) g =
-    let err = (h (refusals.Duplicate i j) (λ e. cc e)).1 g in cc (is, err)
-unrefused r x sites is h (refusals.TooClose i j) g =
-    let err = (h (refusals.TooClose i j) (λ e. cc e)).1 g in cc (is, err)
+use Rattle.sqd_layout.specs.DotsFaults.{sites_in, BeginsAt, IsDotsFault, IsSqdText, named, IsSqdFault}
 
 -- the laws below
 abbrev pub OneDrawing : Type 0
@@ -46,6 +31,9 @@ OneLayout = (v : Lattice) (sites : List Site) (fixes : List Fix) (p q : Arrangem
 
 abbrev pub OneRefusal : Type 0
 OneRefusal = (v : Lattice) (sites : List Site) (fixes : List Fix) (f g : LayoutFault) → IsRefusal v sites fixes f → IsRefusal v sites fixes g → f ≡ g
+
+abbrev pub NoRefusal : Type 0
+NoRefusal = (v : Lattice) (sites : List Site) (fixes : List Fix) (p : Arrangement) (f : LayoutFault) → IsMadeOf v sites fixes p → IsRefusal v sites fixes f → ⊥
 
 pub one_drawn_layout : OneDrawing → OneLayout → (text : List ℕ) (p q : Arrangement) (j k : ℕ) → IsSqdText text p j → IsSqdText text q k → (p ≡ q) × (j ≡ k)
 one_drawn_layout drawing layout text p q j k h g =
@@ -99,14 +87,15 @@ one_sqd_fault drawing fault none refusal text f g (inr h) (inr k) =
     one_dots_fault refusal k.dots f g (subst (λ dots. IsDotsFault dots f) same.0 h.found) k.found
 
 -- dots whose sites make a layout have no fault
-no_dots_fault : (dots : List Dot) (f : SqdFault) → AreUnrefused (sites_in dots) → IsDotsFault dots f → ⊥
-no_dots_fault dots (OutOfRange a) h g = h (refusals.OutOfRange g.0) g.2
-no_dots_fault dots TooMany h g = h refusals.TooMany g
-no_dots_fault dots (Duplicate a b) h g = h (refusals.Duplicate g.0 g.2.0) g.2.2
-no_dots_fault dots f h g = absurd g
+no_dots_fault : NoRefusal → (dots : List Dot) (p : Arrangement) (f : SqdFault) → IsMadeOf silicon (sites_in dots) [] p → IsDotsFault dots f → ⊥
+no_dots_fault none dots p (OutOfRange a) made g = none silicon (sites_in dots) [] p (refusals.OutOfRange g.0) made g.2
+no_dots_fault none dots p TooMany made g = none silicon (sites_in dots) [] p refusals.TooMany made g
+no_dots_fault none dots p (Duplicate a b) made g = none silicon (sites_in dots) [] p (refusals.Duplicate g.0 g.2.0) made g.2.2
+no_dots_fault none dots p f made g = absurd g
 
-pub no_sqd_fault : OneDrawing → NoFault → (text : List ℕ) (p : Arrangement) (skipped : ℕ) (f : SqdFault) → IsSqdText text p skipped → IsSqdFault text f → ⊥
-no_sqd_fault drawing none text p skipped f h (inl k) = none text h.dots skipped k.reason h.drawing k.found
-no_sqd_fault drawing none text p skipped f h (inr k) =
+pub no_sqd_fault : OneDrawing → NoFault → NoRefusal → (text : List ℕ) (p : Arrangement) (skipped : ℕ) (f : SqdFault) → IsSqdText text p skipped
+    → IsSqdFault text f → ⊥
+no_sqd_fault drawing none unrefused text p skipped f h (inl k) = none text h.dots skipped k.reason h.drawing k.found
+no_sqd_fault drawing none unrefused text p skipped f h (inr k) =
     let same = drawing text h.dots k.dots skipped k.skipped h.drawing k.drawing in
-    no_dots_fault k.dots f (subst (λ dots. AreUnrefused (sites_in dots)) same.0 h.unrefused) k.found
+    no_dots_fault unrefused k.dots p f (subst (λ dots. IsMadeOf silicon (sites_in dots) [] p) same.0 h.made) k.found

@@ -17,7 +17,6 @@ use Rattle.sqd_layout.specs.declared.fault.SqdFault.TheVariants.{BadLine, OutOfR
 use Rattle.sqd_layout.specs.SitesLines.{lines_in, lines_of, vectors_of}
 use Rattle.sqd_layout.specs.SitesFaults.{AreFine, IsFirstBad, IsLineInRange, AreLinesInRange, HasTheseVectors, IsLatticeOf, HasNoClash, IsFirstClash, AtLine, AtLines, IsLinesFault, IsLayoutOf, IsSitesText, IsSitesFault}
 use Rattle.sqd_layout.proofs.FineLines.{fine_front}
-use Rattle.sqd_layout.proofs.Unrefused.{not_outside}
 
 -- a lattice of these vectors
 built : (ax ay bx by cx cy : ℤ) → unsigned_abs ax + unsigned_abs bx ≤ MAX_STEPS → unsigned_abs ay + unsigned_abs by ≤ MAX_STEPS
@@ -53,13 +52,13 @@ is_own v p q r s =
 told : (u : Vectors) (v w : CrystalLattice) → HasTheseVectors u v → HasTheseVectors u w → v ≡ w
 unfolding built
 told u v w h k =
-    let a = subst (λ x. IsEach v x v.ay v.bx v.by v.cx v.cy) (h.column_x ∙ sym k.column_x) (is_own v) in
-    let b = subst (λ x. IsEach v w.ax x v.bx v.by v.cx v.cy) (h.column_y ∙ sym k.column_y) a in
-    let c = subst (λ x. IsEach v w.ax w.ay x v.by v.cx v.cy) (h.row_x ∙ sym k.row_x) b in
-    let d = subst (λ x. IsEach v w.ax w.ay w.bx x v.cx v.cy) (h.row_y ∙ sym k.row_y) c in
-    let e = subst (λ x. IsEach v w.ax w.ay w.bx w.by x v.cy) (h.atom_x ∙ sym k.atom_x) d in
-    let f = subst (λ x. IsEach v w.ax w.ay w.bx w.by w.cx x) (h.atom_y ∙ sym k.atom_y) e in
-    f w.x_steps w.y_steps w.x_offset w.y_offset
+    let column_x = subst (λ x. IsEach v x v.ay v.bx v.by v.cx v.cy) (h.column_x ∙ sym k.column_x) (is_own v) in
+    let columns = subst (λ x. IsEach v w.ax x v.bx v.by v.cx v.cy) (h.column_y ∙ sym k.column_y) column_x in
+    let row_x = subst (λ x. IsEach v w.ax w.ay x v.by v.cx v.cy) (h.row_x ∙ sym k.row_x) columns in
+    let rows = subst (λ x. IsEach v w.ax w.ay w.bx x v.cx v.cy) (h.row_y ∙ sym k.row_y) row_x in
+    let atom_x = subst (λ x. IsEach v w.ax w.ay w.bx w.by x v.cy) (h.atom_x ∙ sym k.atom_x) rows in
+    let atoms = subst (λ x. IsEach v w.ax w.ay w.bx w.by w.cx x) (h.atom_y ∙ sym k.atom_y) atom_x in
+    atoms w.x_steps w.y_steps w.x_offset w.y_offset
 
 -- lines give one lattice
 pub one_lattice : (ls : List SitesLine) (v w : CrystalLattice) → IsLatticeOf ls v → IsLatticeOf ls w → v ≡ w
@@ -70,6 +69,11 @@ one_lattice ls v w = by (vectors_of ls)
     by (Some u) h k = told u v w h k
 
 -- the first line out of range
+not_outside : {X : Type 0} (P : X → Type 0) (xs : List X) (i : ℕ) → All P xs → IsSomeAnd (slice_get xs i) (λ x. ¬ P x) → ⊥
+not_outside P [] i all h = h
+not_outside P (x ∷ xs) zero all h = h (All-head P x xs all)
+not_outside P (x ∷ xs) (suc i) all h = not_outside P xs i (All-tail P x xs all) h
+
 not_outside_below : {X : Type 0} (P : X → Type 0) (xs : List X) (i j : ℕ) → i < j → All P (take j xs) → IsSomeAnd (slice_get xs i) (λ x. ¬ P x) → ⊥
 not_outside_below P [] i j l all h = h
 not_outside_below P (x ∷ xs) i zero l all h = absurd (omega arith)

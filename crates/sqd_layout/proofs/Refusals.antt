@@ -1,18 +1,21 @@
 -- what is no line, no sites text, no dot and no fault
-use Rattle.std.proofs.Common.{◌≡◌, refl, ℕ, pos, List, [], ◌∷◌, ◌++◌, None, Some, arith}
+use Rattle.std.proofs.Common.{◌≡◌, ◌≢◌, refl, ℕ, ℤ, pos, List, [], ◌∷◌, ◌++◌, ◌⊎◌, inl, inr, None, Some, arith}
 use Rattle.std.specs.Prelude.{codes}
+use Rattle.std.proofs.lemmas.List.Elements.{All-head}
+use Rattle.std.proofs.lemmas.List.Sorted.{length_permutation}
 use Rattle.sidb_layout.specs.declared.site.Site.{Site}
+use Rattle.sidb_layout.specs.declared.site.Fix.{Fix}
 use Rattle.sidb_layout.specs.declared.lattice.Lattice.{Lattice as CrystalLattice}
 use Rattle.sidb_layout.specs.Lattice.{silicon}
-use Rattle.sidb_layout.specs.Layout.{Arrangement}
+use Rattle.sidb_layout.specs.Layout.{Arrangement, arrangement_of}
 use Rattle.sqd_layout.specs.declared.sites.line.Vectors.{Vectors}
 use Rattle.sqd_layout.specs.declared.sites.line.SitesLine.{SitesLine}
-use Rattle.sqd_layout.specs.declared.sites.line.SitesLine.TheVariants.{Empty, Place, Lattice}
+use Rattle.sqd_layout.specs.declared.sites.line.SitesLine.TheVariants.{Empty, Place, Charge, Lattice}
 use Rattle.sqd_layout.specs.declared.fault.SqdFault.TheVariants.{BadMark, Memory, BadLine, TooClose}
 use Rattle.sqd_dots.specs.declared.drawing.Dot.{Dot}
-use Rattle.sqd_layout.specs.DotsFaults.{BeginsAt, IsDotsFault}
+use Rattle.sqd_layout.specs.DotsFaults.{BeginsAt, IsDotsFault, IsSqdText}
 use Rattle.sqd_layout.specs.SitesLines.{line_in}
-use Rattle.sqd_layout.specs.SitesFaults.{AreFine, IsLineInRange, IsLatticeOf, IsFirstClash, IsSitesText, IsSitesFault}
+use Rattle.sqd_layout.specs.SitesFaults.{AreFine, IsLineInRange, IsLatticeOf, IsClear, IsFirstClash, IsSitesText, IsSitesFault}
 use Rattle.sqd_layout.proofs.FineLines.{bad_none}
 
 -- no lines
@@ -70,3 +73,27 @@ no_second_dot h = h
 
 never_too_close : IsDotsFault one_dot (TooClose 7 7) → ⊥
 never_too_close h = h
+
+-- no drawn layouts: one with a fixed charge, one on another lattice
+a_charge_drawn : (text : List ℕ) (lattice : CrystalLattice) (sites : List Site) (fix : Fix) (skipped : ℕ)
+    → IsSqdText text (arrangement_of lattice sites (fix ∷ [])) skipped → ⊥
+a_charge_drawn text lattice sites fix skipped h = omega (arith, length_permutation [] (fix ∷ []) h.made.same_fixes)
+
+another_lattice : (text : List ℕ) (p : Arrangement) (skipped : ℕ) → p.lattice ≢ silicon → IsSqdText text p skipped → ⊥
+another_lattice text p skipped other h = other h.made.on_lattice
+
+-- no clear lines: a place twice, a fixed charge on a site, and a line out of range
+place_twice : (v : CrystalLattice) (a : Site) → IsClear v (Place a ∷ Empty ∷ Place a ∷ []) → ⊥
+place_twice v a h = h.distinct 0 2 (omega arith) (omega arith) refl
+
+charge_on_a_site : (v : CrystalLattice) (a : Site) (q : ℤ) → IsClear v (Place a ∷ Charge (record { site = a; charge = q }) ∷ []) → ⊥
+charge_on_a_site v a q h = h.distinct 0 1 (omega arith) (omega arith) refl
+
+out_of_range : (v : CrystalLattice) → IsClear v (Place (record { n = pos 0; m = pos 0; l = pos 2 }) ∷ []) → ⊥
+out_of_range v h =
+    let s : Site = record { n = pos 0; m = pos 0; l = pos 2 } in
+    no_third_atom (All-head IsLineInRange (Place s) [] h.few.in_range).atom
+  where
+    no_third_atom : (pos 2 ≡ pos 0) ⊎ (pos 2 ≡ pos 1) → ⊥
+    no_third_atom (inl e) = cc e
+    no_third_atom (inr e) = cc e

@@ -1,5 +1,5 @@
 -- texts worked by hand, their lines, dots, layouts and faults
-use Rattle.std.proofs.Common.{◌≡◌, refl, ℕ, pos, negsuc, List, [], ◌∷◌, ◌++◌, Option, None, Some, inl, inr, true, arith}
+use Rattle.std.proofs.Common.{◌≡◌, refl, ℕ, pos, negsuc, List, [], ◌∷◌, ◌++◌, Option, None, Some, inl, true, arith}
 use Rattle.std.specs.Prelude.{codes, IsSome}
 use Rattle.std.proofs.lemmas.List.Elements.{All-nil, All-cons}
 use Rattle.std.proofs.lemmas.List.Sorted.{IsPermutation-refl}
@@ -7,18 +7,17 @@ use Rattle.sidb_layout.specs.declared.site.Site.{Site}
 use Rattle.sidb_layout.specs.Site.{IsInRange, IsFixInRange}
 use Rattle.sidb_layout.specs.Lattice.{silicon}
 use Rattle.sidb_layout.specs.Layout.{arrangement_of}
-use Rattle.sidb_layout.specs.declared.fault.LayoutFault.{LayoutFault}
-use Rattle.sidb_layout.specs.declared.fault.LayoutFault.TheVariants as refusals
-use Rattle.sidb_layout.specs.Refusal.{IsMadeOf, IsRefusal}
+use Rattle.sidb_layout.specs.Refusal.{IsMadeOf}
 use Rattle.sqd_marks.specs.Marks.{Tag, empty}
-use Rattle.sqd_nesting.specs.Texts.{Item, IsWhole}
+use Rattle.sqd_nesting.specs.Texts.{Item, at_first, IsWhole}
 use Rattle.sqd_elements.specs.Elements.{element_at}
 use Rattle.sqd_dots.specs.Drawings.{IsDrawing}
 use Rattle.sqd_dots.specs.declared.drawing.Dot.{Dot}
-use Rattle.sqd_layout.specs.DotsFaults.{IsDotsFault, IsSqdText}
+use Rattle.sqd_dots.specs.declared.fault.DrawingFault.TheVariants as drawings
+use Rattle.sqd_layout.specs.DotsFaults.{IsDotsFault, IsSqdText, IsSqdFault}
 use Rattle.sqd_layout.specs.declared.sites.line.SitesLine.{SitesLine}
 use Rattle.sqd_layout.specs.declared.sites.line.SitesLine.TheVariants.{Empty, Place, Charge}
-use Rattle.sqd_layout.specs.declared.fault.SqdFault.TheVariants.{BadLine, Duplicate}
+use Rattle.sqd_layout.specs.declared.fault.SqdFault.TheVariants.{BadLine, NotSiqad, Duplicate}
 use Rattle.sqd_layout.specs.SitesLines.{line_in, lines_of}
 use Rattle.sqd_layout.specs.SitesFaults.{AreFine, IsLineInRange, IsSitesText, IsSitesFault}
 use Rattle.sqd_layout.proofs.FineLines.{bad_none}
@@ -184,14 +183,16 @@ draws_nothing = record {
   counted = refl;
 }
 
-none_refused : (refusal : LayoutFault) → IsRefusal silicon [] [] refusal → ⊥
-none_refused (refusals.OutOfRange i) (inl h) = h.outside
-none_refused (refusals.OutOfRange i) (inr h) = h.3.outside
-none_refused refusals.TooMany h = absurd (omega (arith, h.1))
-none_refused refusals.TooManyFixes h = absurd (omega (arith, h.2))
-none_refused (refusals.Duplicate i j) h = absurd (omega (arith, h.1.within))
-none_refused (refusals.TooClose i j) h = absurd (omega (arith, h.2.within))
-none_refused refusals.Memory h = h
-
 drawn_layout : IsSqdText (codes "<siqad/>") (arrangement_of silicon [] []) 0
-drawn_layout = record { dots = []; drawing = draws_nothing; unrefused = none_refused; made = no_sites }
+drawn_layout = record { dots = []; drawing = draws_nothing; made = no_sites }
+
+-- a text of no bytes has no root
+empty_whole : IsWhole [] []
+empty_whole = record { nest = at_first; rest = []; begins = record { is = refl; valid = tt; nested = refl }; closed = refl; blank = tt }
+
+no_root : IsSqdFault [] NotSiqad
+no_root = inl (record {
+  reason = drawings.NotSiqad;
+  found = record { elements = []; read = record { items = []; whole = empty_whole; are = refl }; siqad = refl };
+  name = refl;
+})

@@ -1,7 +1,6 @@
 -- the layouts of texts in the manner of SiQAD, and the first fault of any other text
 use Rattle.std.specs.Prelude.{◌≡◌, ◌⊎◌, ℕ, List, [], map, IsSomeAnd, slice_get}
 use Rattle.sidb_layout.specs.declared.site.Site.{Site}
-use Rattle.sidb_layout.specs.declared.fault.LayoutFault.{LayoutFault}
 use Rattle.sidb_layout.specs.declared.fault.LayoutFault.TheVariants as refusals
 use Rattle.sidb_layout.specs.Lattice.{silicon}
 use Rattle.sidb_layout.specs.Layout.{Arrangement}
@@ -39,15 +38,10 @@ IsDotsFault dots (Duplicate first second) =
     AtDots dots (λ i j. IsRefusal silicon (sites_in dots) [] (refusals.Duplicate i j)) first second
 IsDotsFault dots _ = ⊥
 
--- the sites make a layout
-abbrev pub AreUnrefused : List Site → Type 0
-AreUnrefused sites = (refusal : LayoutFault) → ¬ IsRefusal silicon sites [] refusal
-
 -- the text draws this layout on the default lattice, and skips so many items
 pub record IsSqdText (text : List ℕ) (p : Arrangement) (skipped : ℕ) : Type 0 where
   pub dots : List Dot
   pub drawing : IsDrawing text dots skipped
-  pub unrefused : AreUnrefused (sites_in dots)
   pub made : IsMadeOf silicon (sites_in dots) [] p
 
 -- the name that a fault of a drawing has among the faults of layout texts

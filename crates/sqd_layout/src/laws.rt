@@ -1,8 +1,12 @@
 //! What layout texts promise: each has one reading.
 ghost use Rattle.std.specs.Prelude.{◌≡◌, ℕ, List};
+ghost use Rattle.sidb_layout.specs.declared.lattice.Lattice.{Lattice};
 ghost use Rattle.sidb_layout.specs.Layout.{Arrangement};
+ghost use Rattle.sidb_layout.specs.Refusal.{IsMadeOf};
 ghost use Rattle.sqd_layout.specs.declared.fault.SqdFault.{SqdFault as FaultData};
-ghost use Rattle.sqd_layout.specs.SitesFaults.{IsSitesText, IsSitesFault};
+ghost use Rattle.sqd_layout.specs.declared.sites.line.SitesLine.{SitesLine};
+ghost use Rattle.sqd_layout.specs.SitesLines.{sites_of, fixes_of};
+ghost use Rattle.sqd_layout.specs.SitesFaults.{IsClear, IsSitesText, IsSitesFault};
 ghost use Rattle.sqd_layout.specs.DotsFaults.{IsSqdText, IsSqdFault};
 
 /// A text is the sites text of one layout at most.
@@ -52,4 +56,14 @@ pub fn no_sqd_fault()
 {
     sqd_dots::laws::one_drawing();
     sqd_dots::laws::no_fault();
+    layout_laws::laws::a_layout_is_not_refused();
+}
+
+/// Lines without a fault give sites and fixed charges that make a layout.
+pub fn clear_lines_make_a_layout()
+    ensures { (v : Lattice) (ls : List SitesLine) → IsClear v ls
+        → (p : Arrangement) × IsMadeOf v (sites_of ls) (fixes_of ls) p }
+{
+    sidb_layout::laws::distances_have_no_direction();
+    layout_laws::laws::clear_places_make_a_layout();
 }

@@ -1,10 +1,10 @@
 //! Texts in the manner of SiQAD: elements, some of which are dots.
-ghost use Rattle.std.specs.Prelude.{◌≡◌, ◌≢◌, ◌⊎◌, ◌<◌, ℕ, List, [], length, IfOk, IfErr, OnOk};
+ghost use Rattle.std.specs.Prelude.{◌≡◌, ◌≢◌, ◌⊎◌, ◌<◌, ℕ, List, [], length, IfOk, IfErr};
 ghost use Rattle.sidb_layout.specs.Lattice.{silicon};
 ghost use Rattle.sidb_layout.specs.Refusal.{IsMadeOf, IsRefusal};
 ghost use Rattle.sqd_dots.specs.Drawings.{IsDrawing};
 ghost use Rattle.sqd_layout.specs.declared.fault.SqdFault.TheVariants.{Memory as OutOfMemory};
-ghost use Rattle.sqd_layout.specs.DotsFaults.{sites_in, BeginsAt, IsDotsFault, AreUnrefused, named, IsSqdText, IsSqdFault};
+ghost use Rattle.sqd_layout.specs.DotsFaults.{sites_in, BeginsAt, IsDotsFault, named, IsSqdText, IsSqdFault};
 
 use crate::{Found, SqdFault};
 use sidb_layout::{Layout, LayoutFault, Site, layout_of};
@@ -83,7 +83,6 @@ fn dots_fault(dots: &[Dot], refusal: LayoutFault) -> SqdFault
 
 /// The layout of dots on the default lattice.
 fn layout_of_dots(alloc: Global, dots: &[Dot]) -> Result<Layout, SqdFault>
-    ensures unrefused { OnOk result (AreUnrefused (sites_in dots.now)) }
     ensures made { IfOk result (IsMadeOf silicon (sites_in dots.now) []) }
     ensures fault { IfErr result (λ fault. (fault ≡ OutOfMemory) ⊎ IsDotsFault dots.now fault) }
 {

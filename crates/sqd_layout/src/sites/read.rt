@@ -10,7 +10,9 @@ use super::clashes::{Clash, first_clash};
 use super::line::SitesLine;
 use super::lines::read_lines;
 use super::ranges::{first_out, lattice_in};
+use crate::laws::clear_lines_make_a_layout;
 use crate::{Found, SqdFault};
+use layout_laws::laws::a_layout_is_not_refused;
 use sidb_layout::{Fix, Lattice, Layout, LayoutFault, Site, layout_on};
 use sidb_units::{MAX_FIXED, MAX_SITES};
 use std::alloc::{AllocError, Global};
@@ -108,6 +110,8 @@ fn layout_of_lines(alloc: Global, lines: &[SitesLine]) -> Result<Layout, SqdFaul
     if let Some(fault) = fault_of(lattice, lines, sites.len(), fixes.len()) {
         return Err(fault);
     }
+    clear_lines_make_a_layout();
+    a_layout_is_not_refused();
     unrefused_layout(alloc, lattice, &sites, &fixes)
 }
 

@@ -6,6 +6,5 @@ returns c = has_reading (record {
   site_decided = c.places_are_in_range_or_not.ensures;
   fix_decided = c.fixes_are_in_range_or_not.ensures;
   same_decided = c.places_are_the_same_or_not.ensures;
-  distance-turned = c.distances_have_no_direction.ensures;
-  layout_of_clear = c.clear_places_make_a_layout.ensures;
+  layout_of_clear = c.clear_lines_make_a_layout.ensures;
 })

@@ -1,22 +1,26 @@
--- the places that lines give, where no two of them are related
+-- lines without a fault make a layout: the places that they give are few, and no two of them are related
 use Rattle.std.proofs.Common.{◌≡◌, sym, subst, refl, ℕ, zero, suc, ◌<◌, List, [], ◌∷◌, ◌++◌, length, arith, Some}
 use Rattle.std.specs.Prelude.{All, AllPairs, IsSomeAnd}
 use Rattle.std.proofs.lemmas.List.Elements.{All-nil, All-cons, All-head, All-tail}
 use Rattle.std.proofs.lemmas.List.Kept.{AllPairs-cons}
 use Rattle.sidb_layout.specs.declared.site.Site.{Site}
+use Rattle.sidb_layout.specs.declared.site.Fix.{Fix}
+use Rattle.sidb_layout.specs.declared.lattice.Lattice.{Lattice as CrystalLattice}
 use Rattle.sidb_layout.specs.Site.{IsInRange, IsFixInRange, places_of, places_of_fixes}
-use Rattle.sidb_layout.specs.Refusal.{AreFew}
+use Rattle.sidb_layout.specs.Lattice.{squared_distance}
+use Rattle.sidb_layout.specs.Layout.{Arrangement}
+use Rattle.sidb_layout.specs.Refusal.{IsTooClose, AreFew, AreDistinct, IsMadeOf}
 use Rattle.sqd_layout.specs.declared.sites.line.SitesLine.{SitesLine}
 use Rattle.sqd_layout.specs.declared.sites.line.SitesLine.TheVariants.{Empty, Place, Charge, Lattice}
 use Rattle.sqd_layout.specs.SitesLines.{place_in, place_on, sites_of, fixes_of}
-use Rattle.sqd_layout.specs.SitesFaults.{IsLineInRange, AreLinesInRange, AreFewLines, HasNoClash}
+use Rattle.sqd_layout.specs.SitesFaults.{IsLineInRange, AreLinesInRange, AreFewLines, HasNoClash, IsClear}
 
 -- the places that lines give, sites first
-abbrev pub given : List SitesLine → List Site
+abbrev given : List SitesLine → List Site
 given ls = places_of (sites_of ls) (fixes_of ls)
 
 -- S holds in either direction
-abbrev pub IsTurned : (Site → Site → Type 0) → Type 0
+abbrev IsTurned : (Site → Site → Type 0) → Type 0
 IsTurned S = (a b : Site) → S a b → S b a
 
 -- one more element between two lists
@@ -75,7 +79,7 @@ unrelated_first R a l ls is none k b within at r = clash related
         (subst (λ o. IsSomeAnd o (λ x. R x b)) (sym is) r)
 
 -- where no lines clash, no two given places are related
-pub given_pairs : (R : Site → Site → Type 0) → IsTurned R → (ls : List SitesLine) → HasNoClash R ls → AllPairs (λ a b. R a b → ⊥) (given ls)
+given_pairs : (R : Site → Site → Type 0) → IsTurned R → (ls : List SitesLine) → HasNoClash R ls → AllPairs (λ a b. R a b → ⊥) (given ls)
 given_pairs R turned [] none = no_pairs (λ a b. R a b → ⊥)
 given_pairs R turned (Empty ∷ ls) none = given_pairs R turned ls (no_clash_behind R Empty ls none)
 given_pairs R turned (Place s ∷ ls) none =
@@ -105,9 +109,24 @@ fixes_in_range (Charge f ∷ ls) all =
     All-cons IsFixInRange f (fixes_of ls) (All-head IsLineInRange (Charge f) ls all) (fixes_in_range ls (All-tail IsLineInRange (Charge f) ls all))
 fixes_in_range (Lattice v ∷ ls) all = fixes_in_range ls (All-tail IsLineInRange (Lattice v) ls all)
 
-pub few_places : (ls : List SitesLine) → AreFewLines ls → AreFew (sites_of ls) (fixes_of ls)
+few_places : (ls : List SitesLine) → AreFewLines ls → AreFew (sites_of ls) (fixes_of ls)
 few_places ls few = record {
   in_range = record { all_sites = sites_in_range ls few.in_range; all_fixes = fixes_in_range ls few.in_range };
   few_sites = few.few_sites;
   few_fixes = few.few_fixes;
 }
+
+-- the laws below
+abbrev pub HaveNoDirection : Type 0
+HaveNoDirection = (v : CrystalLattice) (a b : Site) → squared_distance v a b ≡ squared_distance v b a
+
+abbrev pub ClearPlacesMakeALayout : Type 0
+ClearPlacesMakeALayout = (v : CrystalLattice) (sites : List Site) (fixes : List Fix) → AreFew sites fixes → AreDistinct (places_of sites fixes)
+    → AllPairs (λ a b. ¬ IsTooClose v a b) (places_of sites fixes) → (p : Arrangement) × IsMadeOf v sites fixes p
+
+pub clear_lines : HaveNoDirection → ClearPlacesMakeALayout → (v : CrystalLattice) (ls : List SitesLine) → IsClear v ls
+    → (p : Arrangement) × IsMadeOf v (sites_of ls) (fixes_of ls) p
+clear_lines turned made v ls clear =
+    made v (sites_of ls) (fixes_of ls) (few_places ls clear.few)
+    (given_pairs (λ a b. a ≡ b) (λ a b e. sym e) ls clear.distinct)
+    (given_pairs (IsTooClose v) (λ a b close. omega (arith, turned v a b, close)) ls clear.apart)
