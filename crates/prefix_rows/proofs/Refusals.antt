@@ -1,10 +1,10 @@
--- what is no part of a bound, no limit of a charge, and not written
+-- what is no part of a bound, no limit of a charge, no span, and not written
 use Rattle.std.proofs.Common.{[], ◌∷◌, ap, pos, neg_ℤ}
 use Rattle.charge_model.specs.declared.charge.Charge.TheVariants.{Neg}
 use Rattle.charge_model.specs.Problem.{class_of, near_class_of}
 use Rattle.charge_model.specs.Prefixes.{least_fixed, greatest_fixed}
 use Rattle.prefix_rows.specs.Limits.{IsLimit}
-use Rattle.prefix_rows.specs.Rows.{IsWritten}
+use Rattle.prefix_rows.specs.Rows.{IsSpan, IsWritten}
 use Rattle.prefix_rows.specs.Tables.{IsPrefixPart}
 use Rattle.prefix_rows.proofs.StandardFacts.{neighbours, amount}
 
@@ -21,3 +21,7 @@ no_other_limit is = let e = is.greatest in cc
 not_half_written : IsWritten (record { least = amount 0 ∷ []; greatest = amount 0 ∷ [] }) 0 (record { least = amount 3; greatest = amount 5 })
     (record { least = amount 3 ∷ []; greatest = amount 0 ∷ [] }) → ⊥
 not_half_written is = let e = ap (λ x. x.greatest.value) is.here in cc
+
+-- a site adds nothing to its own potential
+no_own_span : IsSpan neighbours 1 1 (record { least = amount 620124254312; greatest = amount 620124254313 }) → ⊥
+no_own_span is = let e = is.lo in cc

@@ -7,7 +7,7 @@ use Rattle.charge_model.specs.Problem.{Problem, class_of, near_class_of}
 use Rattle.charge_model.specs.Prefixes.{least_fixed, greatest_fixed, least_potential, may_be_positive}
 use Rattle.prefix_rows.specs.Tables.{IsPairPart, IsPrefixPart}
 use Rattle.prefix_rows.specs.Limits.{IsLimit}
-use Rattle.prefix_rows.specs.Rows.{IsWritten, extremes_at}
+use Rattle.prefix_rows.specs.Rows.{IsSpan, IsWritten, extremes_at}
 use Rattle.prefix_extremes.specs.declared.amount.Amount.{Amount}
 
 abbrev span : (lo hi : ℤ) → lo ≤ℤ hi → Span
@@ -30,6 +30,14 @@ neighbours = record {
   near_classes = [];
   spans = span (pos 620124254312) (pos 620124254313) (omega (arith, ints)) ∷ span (pos 287140799939) (pos 287140799940) (omega (arith, ints)) ∷ [];
 }
+
+-- the first two sites stand in one pair, and a site in none with itself
+span_of_pair : IsSpan neighbours 0 1 (record { least = amount 620124254312; greatest = amount 620124254313 })
+unfolding class_of
+span_of_pair = record { lo = refl; hi = refl; order = omega (arith, ints); small = record { least = omega arith; greatest = omega arith } }
+
+span_of_one : IsSpan neighbours 1 1 (record { least = zero_amount; greatest = zero_amount })
+span_of_one = record { lo = refl; hi = refl; order = omega (arith, ints); small = record { least = omega arith; greatest = omega arith } }
 
 -- no site is assigned: the pairs with the site in the middle may be one negative, one positive
 pairs_of_none : IsPairPart neighbours 0 (record { value = neg_ℤ (pos 1240248508626) })
