@@ -1,5 +1,6 @@
 -- there is one answer
-use Rattle.std.proofs.Common.{◌≡◌, ℕ, ◌≤◌, ℤ, List, length, Option, ap, arith}
+use Rattle.std.proofs.Common.{◌≡◌, ℕ, ◌<◌, ◌≤◌, ℤ, List, length, Option, ◌⊎◌, inl, inr, ap, arith}
+use Rattle.std.proofs.lemmas.Bool.{cases_lt}
 use Rattle.std.proofs.lemmas.List.{length-map}
 use Rattle.charge_model.specs.declared.charge.Charge.{Charge}
 use Rattle.charge_model.specs.Problem.{Problem}
@@ -22,6 +23,13 @@ pub not_both_budgets : ((p : Problem) (a b : Option ℤ) → IsLeastCertain p a 
 not_both_budgets one p limit within over =
     let same = ap (node_count p) (one p within.0 over.0 within.1 over.1) in
     omega (arith, same, within.2, over.2)
+
+pub budget_decided : (p : Problem) (limit : ℕ) → (bound : Option ℤ) × IsLeastCertain p bound → IsWithinBudget p limit ⊎ IsOverBudget p limit
+budget_decided p limit (bound, least) = by (cases_lt limit (node_count p bound))
+  where
+    by : (limit < node_count p bound) ⊎ (node_count p bound ≤ limit) → IsWithinBudget p limit ⊎ IsOverBudget p limit
+    by (inl many) = inr (bound, least, many)
+    by (inr few) = inl (bound, least, few)
 
 pub solution_is_listed : (p : Problem) (limit : ℕ) (s : Solved) → IsSolution p limit s → length s.list ≤ MAX_ENTRIES → IsListedWithin p limit s.list
 solution_is_listed p limit s is few = record {

@@ -1,16 +1,17 @@
-//! That for each problem and limit there is one answer.
-ghost use Rattle.std.specs.Prelude.{◌≡◌, ◌≤◌, ℕ, List, length};
-ghost use Rattle.charge_model.specs.Problem.{Problem};
+//! That no problem and limit have two answers.
+ghost use Rattle.std.specs.Prelude.{◌≡◌, ◌≤◌, ◌⊎◌, ℕ, List, length};
+ghost use Rattle.charge_model.specs.Problem.{Problem, IsProblem};
 ghost use Rattle.charge_model.specs.GroundList.{Entry};
 ghost use Rattle.prune_certificate.specs.declared.ground_list.Solved.{Solved};
 ghost use Rattle.sidb_units.specs.declared.TheConstants.{MAX_ENTRIES};
 ghost use Rattle.ground_state.specs.Answer.{IsListedWithin, IsTooLongWithin, IsWithinBudget, IsOverBudget, IsSolution};
 
+use branch_search::laws::least_certain_energies_exist;
 use ground_list_laws::laws::{one_ground_list, one_marked_ground_list};
 use prefix_laws::laws::one_least_certain;
 
-/// Within the budget a problem has one ground list with its marks, or one that is too long, and
-/// not both; and the budget suffices or does not, and not both.
+/// Within the budget a problem has at most one ground list with its marks, and none where its
+/// ground list is too long; and the budget suffices or does not, and not both.
 pub fn one_answer()
     ensures list { (p : Problem) (limit : ℕ) (es fs : List Entry)
         → IsListedWithin p limit es → IsListedWithin p limit fs → es ≡ fs }
@@ -18,7 +19,10 @@ pub fn one_answer()
         → IsListedWithin p limit es → IsTooLongWithin p limit → ⊥ }
     ensures budget { (p : Problem) (limit : ℕ)
         → IsWithinBudget p limit → IsOverBudget p limit → ⊥ }
+    ensures decided { (p : Problem) (limit : ℕ) → IsProblem p
+        → IsWithinBudget p limit ⊎ IsOverBudget p limit }
 {
+    least_certain_energies_exist();
     one_ground_list();
     one_marked_ground_list();
     one_least_certain();

@@ -1,4 +1,4 @@
-ghost use Rattle.std.specs.Prelude.{◌<◌};
+ghost use Rattle.std.specs.Prelude.{◌≡◌, ◌<◌, ◌↔◌, IfOk, IsTrue};
 
 use crate::row::Row;
 use charge_model::Span;
@@ -59,7 +59,12 @@ fn site_row(problem: &Problem, i: usize) -> Row
 }
 
 /// The couplings of a problem, in the middle of each span.
-pub fn couplings_of(alloc: Global, problem: &Problem) -> Result<Couplings, Memory> {
+pub fn couplings_of(alloc: Global, problem: &Problem) -> Result<Couplings, Memory>
+    ensures sites { IfOk result (λ c. c.sites ≡ problem.now.sites) }
+    ensures base { IfOk result (λ c. IsTrue c.positive ↔ (problem.now.base ≡ 3)) }
+    ensures minus { IfOk result (λ c. c.minus ≡ problem.now.mu_minus) }
+    ensures plus { IfOk result (λ c. c.plus ≡ problem.now.mu_plus) }
+{
     let mut fixed = Row::zero();
     let mut rows = Vec::new(alloc);
     for i in 0..problem.sites() {

@@ -39,3 +39,6 @@ count_positive p o q h = by (cases_lt (length q) p.sites)
 pub count_root : (p : Problem) (o : Option ℤ) → nodes_under p o [] ≡ node_count p o
 unfolding nodes_under node_count
 count_root p o = let whole : p.sites - 0 ≡ p.sites = omega arith in ap (λ n. nodes_from p o n []) whole
+
+-- a prefix that is no node, a full one, another node, and the empty prefix
+pub ruleset counted = (count_closed, count_full, count_node, count_root)

@@ -7,7 +7,7 @@ ghost use Rattle.tree_leaves.specs.Subtree.{nodes_under, nodes_beyond, IsAtMost}
 
 /// No member begins with a prefix that is no node, one with a node that has all its charges, and
 /// with another node itself and those with one charge more. All begin with the empty prefix.
-#[tactic(auto, using(crate::proofs::Counts::count_closed, crate::proofs::Counts::count_full, crate::proofs::Counts::count_node, crate::proofs::Counts::count_root))]
+#[tactic(auto, using(crate::proofs::Counts::counted))]
 pub fn nodes_count_their_children()
     ensures closed { (p : Problem) (threshold : Option ℤ) (prefix : List Charge)
         → is_node p threshold prefix ≡ false → nodes_under p threshold prefix ≡ 0 }
