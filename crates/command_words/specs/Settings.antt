@@ -15,11 +15,12 @@ use Rattle.command_words.specs.Command.{refusals_of, value_of}
 abbrev pub text_of : Option (Bor Text) → Option Text
 text_of = option_map (λ text. text.now)
 
--- the names of the tasks and of the forms
+-- the names of the tasks
 abbrev pub task_name : Task → Text
 task_name Ground = codes "ground"
 task_name Potentials = codes "potentials"
 
+-- the names of the forms
 abbrev pub form_name : Form → Text
 form_name Sites = codes "sites"
 form_name Sqd = codes "sqd"

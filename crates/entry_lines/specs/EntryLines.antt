@@ -43,12 +43,13 @@ pub record FitsSpan (s : Span) : Type 0 where
   pub least : unsigned_abs s.lo < 2 ^ 63
   pub greatest : unsigned_abs s.hi < 2 ^ 63
 
--- the numbers of a mark fit their types
+-- the numbers of a deciding comparison fit their types
 abbrev pub FitsDeciding : Deciding → Type 0
 FitsDeciding (Population i k s) = (i < 2 ^ 64) × FitsSpan s
 FitsDeciding (Hop i j s) = (i < 2 ^ 64) × (j < 2 ^ 64) × FitsSpan s
 FitsDeciding (Rival j s) = (j < 2 ^ 64) × FitsSpan s
 
+-- the numbers of a mark fit their types
 abbrev pub FitsMark : Mark → Type 0
 FitsMark Certain = Unit {0}
 FitsMark (Unresolved d) = FitsDeciding d

@@ -1,5 +1,5 @@
 -- what a task answers is the answer to the settings
-use Rattle.std.proofs.Common.{◌≡◌, ◌⊎◌, inl, inr, sym, subst, ℕ, suc, List, [], ◌∷◌, Option, map, arith}
+use Rattle.std.proofs.Common.{◌≡◌, ◌≢◌, ◌⊎◌, inl, inr, refl, sym, subst, ℕ, suc, List, [], ◌∷◌, Option, map, arith}
 use Rattle.std.specs.Prelude.{All}
 use Rattle.std.proofs.lemmas.List.Elements.{All-nil, All-cons}
 use Rattle.charge_model.specs.Problem.{Problem}
@@ -7,13 +7,38 @@ use Rattle.charge_model.specs.Rules.{IsChargeList}
 use Rattle.charge_model.specs.GroundList.{Entry, IsListed, IsMarkedGroundList}
 use Rattle.command_words.specs.declared.settings.Settings.{Settings}
 use Rattle.command_words.specs.declared.settings.Task.{Task}
+use Rattle.command_words.specs.Settings.{IsSettingsOf}
 use Rattle.fault_lines.specs.declared.input_fault.InputFault.{InputFault}
+use Rattle.fault_lines.specs.FaultLines.{words_line}
 use Rattle.ground_report.specs.declared.about.About.{About}
 use Rattle.ground_report.specs.Subject.{AreOf}
 use Rattle.task_input.specs.Input.{IsInput, IsInputFault, IsWantOfMemory}
 use Rattle.sim_cli.specs.declared.status.Status.{Status}
-use Rattle.sim_cli.specs.Answer.{IsAnswerFor, IsFaultAnswer, IsTaskAnswer}
-use Rattle.sim_cli.specs.Run.{Wrote}
+use Rattle.sim_cli.specs.declared.status.Status.TheVariants.{Words}
+use Rattle.sim_cli.specs.Answer.{AreRefused, IsAnswer, IsAnswerFor, IsFaultAnswer, IsTaskAnswer}
+use Rattle.sim_cli.specs.Run.{ForBytesLeft, IsWritten, Ran, Wrote}
+use Rattle.sim_cli.proofs.Writing.{left_all, left_also, ran_also, ran_words}
+
+-- words that mean settings are not refused
+pub not_refused : (words : List (List ℕ)) (s : Settings) (result : Status) (P : Type 0) → IsSettingsOf words s → result ≢ Words → (result ≡ Words) ⊎ AreRefused words → P
+not_refused words s result P means known (inl is) = absurd (known is)
+not_refused words s result P means known (inr refused) = absurd (refused s means)
+
+-- what was written for a task's answer is what is written for the answer to the words
+pub for_words : (words : List (List ℕ)) (s : Settings) → IsSettingsOf words s → (left old new : Option (List ℕ)) (result : Status)
+    → ForBytesLeft left (λ bytes. Ran (IsTaskAnswer s bytes) result old new)
+    → ForBytesLeft left (λ bytes. Ran (IsAnswer words bytes) result old new)
+for_words words s means left old new result ran =
+    left_also (λ bytes. Ran (IsTaskAnswer s bytes) result old new) (λ bytes. Ran (IsAnswer words bytes) result old new) left
+    (λ bytes is. ran_also (IsTaskAnswer s bytes) (IsAnswer words bytes) (λ status text due. inr (s, means, due)) result old new is) ran
+
+-- the line for refused words, whatever the bytes are
+pub for_refused : (words : List (List ℕ)) → AreRefused words → (left old new : Option (List ℕ)) (before after : ℕ) (result : Status) (text : List ℕ)
+    → text ≡ words_line → IsWritten Words text before after result old new
+    → ForBytesLeft left (λ bytes. Ran (IsAnswer words bytes) result old new)
+for_refused words refused left old new before after result text is written =
+    left_all (λ bytes. Ran (IsAnswer words bytes) result old new) left
+    (λ bytes. ran_words (IsAnswer words bytes) text before after result old new (inl (refused, refl, is)) written)
 
 pub for_input : (s : Settings) (bytes : List ℕ) (p : Problem) (about : About) → IsInput s bytes p about → (status : Status) (text : List ℕ) → IsAnswerFor s.task s about p status text → IsTaskAnswer s bytes status text
 for_input s bytes p about means status text is = inr (record { problem = p; about = about; means = means; answers = is })

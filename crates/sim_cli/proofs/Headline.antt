@@ -1,5 +1,5 @@
 -- what an answer tells under every potential table
-use Rattle.std.proofs.Common.{◌≡◌, inl, inr, ℕ, List, Option, IfSome, Some, subst, pos, ◌<ℤ◌}
+use Rattle.std.proofs.Common.{◌≡◌, inl, inr, ℕ, List, Option, Some, subst, pos, ◌<ℤ◌}
 use Rattle.std.specs.Prelude.{Contains}
 use Rattle.charge_model.specs.declared.mark.Deciding.{Deciding}
 use Rattle.charge_model.specs.declared.mark.Mark.TheVariants.{Certain, Unresolved}
@@ -17,8 +17,8 @@ use Rattle.sim_cli.specs.declared.status.Status.{Status}
 use Rattle.sim_cli.specs.declared.status.Status.TheVariants.{Answered}
 use Rattle.sim_cli.specs.Answer.{IsAnswer, IsAnswerFor, IsGroundAnswer, IsGroundReport, IsInputAnswer, IsTaskAnswer}
 use Rattle.sim_cli.specs.Headline.{PrintsGroundStates, TellsGroundStates}
-use Rattle.sim_cli.specs.Run.{Ran, WroteWhole}
-use Rattle.sim_cli.proofs.Writing.{some_also}
+use Rattle.sim_cli.specs.Run.{ForBytesLeft, Ran, WroteWhole}
+use Rattle.sim_cli.proofs.Writing.{left_also}
 
 -- the laws of settings, of inputs and of the ground list
 pub record Laws : Type 0 where
@@ -68,9 +68,9 @@ for_answer laws words bytes text (inr is) s means ground =
     for_settings laws s bytes text ground (subst (λ (m : Settings). IsTaskAnswer m bytes Answered text) same is.2)
 
 pub headline : Laws → (words : List (List ℕ)) (left old new : Option (List ℕ)) (result : Status)
-    → IfSome left (λ bytes. Ran (IsAnswer words bytes) result old new) → result ≡ Answered
-    → IfSome left (λ bytes. WroteWhole (TellsGroundStates words bytes) old new)
+    → ForBytesLeft left (λ bytes. Ran (IsAnswer words bytes) result old new) → result ≡ Answered
+    → ForBytesLeft left (λ bytes. WroteWhole (TellsGroundStates words bytes) old new)
 headline laws words left old new result ran answered =
-    some_also (λ bytes. Ran (IsAnswer words bytes) result old new) (λ bytes. WroteWhole (TellsGroundStates words bytes) old new) left
+    left_also (λ bytes. Ran (IsAnswer words bytes) result old new) (λ bytes. WroteWhole (TellsGroundStates words bytes) old new) left
     (λ bytes r. let whole = subst (λ s. Ran (IsAnswer words bytes) s old new) answered r in
     (whole.0, for_answer laws words bytes whole.0 whole.1, whole.2)) ran

@@ -3,3 +3,5 @@ pub mod Told
 pub mod Writing
 pub mod Headline
 pub mod OneAnswer
+pub mod StandardFacts
+mod Refusals

@@ -1,10 +1,15 @@
 -- what a run answers and writes, want of memory and faults of the outside included
-use Rattle.std.specs.Prelude.{◌≡◌, ◌⊎◌, ℕ, List, Option}
+use Rattle.std.specs.Prelude.{◌≡◌, ◌⊎◌, ℕ, List, Option, None, Some}
 use Rattle.sidb_io.specs.Outside.{HasFault, Took, TookFront}
 use Rattle.command_words.specs.declared.settings.Settings.{Settings}
 use Rattle.command_words.specs.Settings.{IsSettingsOf}
 use Rattle.sim_cli.specs.declared.status.Status.{Status}
 use Rattle.sim_cli.specs.declared.status.Status.TheVariants.{Answered, Words, Input, Budget, ListTooLong, ReadFault, WriteFault, Memory}
+
+-- this holds of the bytes that a source has left; where it tells nothing, of some bytes
+abbrev pub ForBytesLeft : Option (List ℕ) → (List ℕ → Type 0) → Type 0
+ForBytesLeft None fact = (bytes : List ℕ) × fact bytes
+ForBytesLeft (Some bytes) fact = fact bytes
 
 -- that text was written whole
 abbrev pub WroteWhole : (List ℕ → Type 0) → Option (List ℕ) → Option (List ℕ) → Type 0
@@ -16,31 +21,22 @@ WroteFront answer old new =
     (status : Status) × (text : List ℕ) × answer status text × TookFront old text new
 
 -- the status, and what was written before and after, where `answer` says which status and text
--- are to be given: the whole text, or nothing after a failed read, or a front of the text
--- after a failed write and for want of memory
+-- are to be given: the whole text, or a front of it after a failed write, or nothing after a
+-- failed read and for want of memory
 abbrev pub Ran : (Status → List ℕ → Type 0) → Status → Option (List ℕ) → Option (List ℕ) → Type 0
-Ran answer Answered old new = WroteWhole (answer Answered) old new
-Ran answer Words old new = WroteWhole (answer Words) old new
-Ran answer (Input fault) old new = WroteWhole (answer (Input fault)) old new
-Ran answer Budget old new = WroteWhole (answer Budget) old new
-Ran answer ListTooLong old new = WroteWhole (answer ListTooLong) old new
 Ran answer ReadFault old new = new ≡ old
+Ran answer Memory old new = new ≡ old
 Ran answer WriteFault old new = WroteFront answer old new
-Ran answer Memory old new =
-    (status : Status) (text : List ℕ) → answer status text → TookFront old text new
+Ran answer status old new = WroteWhole (answer status) old new
 
--- the same of a call that reads nothing: a failed write was counted, and where memory
--- does not suffice nothing was written; the counts are those of the sink's faults
+-- the same of a call that reads nothing: a failed write was counted; the counts are those of the
+-- sink's faults
 abbrev pub Wrote : (Status → List ℕ → Type 0) → ℕ → ℕ → Status
     → Option (List ℕ) → Option (List ℕ) → Type 0
-Wrote answer before after Answered old new = WroteWhole (answer Answered) old new
-Wrote answer before after Words old new = WroteWhole (answer Words) old new
-Wrote answer before after (Input fault) old new = WroteWhole (answer (Input fault)) old new
-Wrote answer before after Budget old new = WroteWhole (answer Budget) old new
-Wrote answer before after ListTooLong old new = WroteWhole (answer ListTooLong) old new
 Wrote answer before after ReadFault old new = ⊥
-Wrote answer before after WriteFault old new = HasFault before after × WroteFront answer old new
 Wrote answer before after Memory old new = new ≡ old
+Wrote answer before after WriteFault old new = HasFault before after × WroteFront answer old new
+Wrote answer before after status old new = WroteWhole (answer status) old new
 
 -- the text was written and the status is given, or writing failed and was counted
 abbrev pub IsWritten : Status → List ℕ → ℕ → ℕ → Status → Option (List ℕ) → Option (List ℕ) → Type 0

@@ -1,7 +1,6 @@
 // The texts of answers and refusals, written whole.
 ghost use Rattle.std.specs.Prelude.{◌≡◌};
-ghost use Rattle.fault_lines.specs.FaultLines.{words_line};
-ghost use Rattle.ground_report.specs.Subject.{IsAbout};
+ghost use Rattle.fault_lines.specs.FaultLines.{list_too_long_line, words_line};
 ghost use Rattle.command_words.specs.Settings.{AreInRange};
 ghost use Rattle.charge_model.specs.GroundList.{IsMarkedGroundList};
 ghost use Rattle.ground_state.specs.Answer.{IsWithinBudget};
@@ -60,8 +59,7 @@ pub fn answer_ground<R: Threads + Sync, K: Sink, G: Gate>(
     sink: &mut K,
     gate: &G,
 ) -> Status
-    requires settings { AreInRange settings.now }
-    requires input { IsAbout input.now.about input.now.problem }
+    requires { AreInRange settings.now }
     ensures { Wrote (IsGroundAnswer settings.now input.now.about input.now.problem)
         (K.faults sink.old) (K.faults sink.new) result (K.written sink.old) (K.written sink.new) }
 {
@@ -69,9 +67,7 @@ pub fn answer_ground<R: Threads + Sync, K: Sink, G: Gate>(
     match solve(rt, alloc, &input.problem, limit, workers, gate) {
         SolveAnswer::List(solved) => answer_list(alloc, settings, input, &solved.list, sink),
         SolveAnswer::Budget => answer_budget(alloc, limit, sink),
-        SolveAnswer::ListTooLong => {
-            written(sink, list_too_long_line().as_bytes(), Status::ListTooLong)
-        }
+        SolveAnswer::ListTooLong => answer_long_list(sink),
         SolveAnswer::Memory => Status::Memory,
     }
 }
@@ -84,7 +80,6 @@ fn answer_list<K: Sink>(
     list: &GroundList,
     sink: &mut K,
 ) -> Status
-    requires input { IsAbout input.now.about input.now.problem }
     requires budget { IsWithinBudget input.now.problem settings.now.limit }
     requires list { IsMarkedGroundList input.now.problem list.now }
     ensures { Wrote (IsGroundAnswer settings.now input.now.about input.now.problem)
@@ -98,6 +93,7 @@ fn answer_list<K: Sink>(
 }
 
 /// Says that the search would take more nodes than the limit.
+#[tactic(auto, using(crate::proofs::Writing::wrote_budget))]
 fn answer_budget<K: Sink>(alloc: Global, limit: u64, sink: &mut K) -> Status
     ensures { Wrote (IsBudgetAnswer limit) (K.faults sink.old) (K.faults sink.new) result
         (K.written sink.old) (K.written sink.new) }
@@ -106,6 +102,14 @@ fn answer_budget<K: Sink>(alloc: Global, limit: u64, sink: &mut K) -> Status
         Ok(line) => written(sink, line.as_bytes(), Status::Budget),
         Err(_) => Status::Memory,
     }
+}
+
+/// Says that the ground list has too many entries.
+fn answer_long_list<K: Sink>(sink: &mut K) -> Status
+    ensures { IsWritten Status.ListTooLong list_too_long_line (K.faults sink.old)
+        (K.faults sink.new) result (K.written sink.old) (K.written sink.new) }
+{
+    written(sink, list_too_long_line().as_bytes(), Status::ListTooLong)
 }
 
 /// Writes the table text of the problem.

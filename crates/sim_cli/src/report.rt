@@ -1,6 +1,6 @@
 // The report of a ground list.
 ghost use Rattle.std.specs.Prelude.{string_bytes, IfOk};
-ghost use Rattle.ground_report.specs.Subject.{AreOf, IsAbout};
+ghost use Rattle.ground_report.specs.Subject.{AreOf};
 ghost use Rattle.sim_cli.specs.Answer.{IsReport};
 
 use command_words::Settings;
@@ -17,8 +17,7 @@ pub fn report_of(
     input: &Input,
     list: &GroundList,
 ) -> Result<String, Memory>
-    requires entries { AreOf input.now.problem list.now }
-    requires layout { IsAbout input.now.about input.now.problem }
+    requires { AreOf input.now.problem list.now }
     ensures { IfOk result (λ text. IsReport settings.now input.now.about input.now.problem list.now
         (string_bytes text)) }
 {

@@ -1,11 +1,10 @@
 // The answer to settings that words mean.
-ghost use Rattle.std.specs.Prelude.{◌≡◌, ◌≢◌, IfSome};
+ghost use Rattle.std.specs.Prelude.{◌≡◌, ◌≢◌};
 ghost use Rattle.std.specs.Io.KnownBytes.{IsAtEnd};
 ghost use Rattle.command_words.specs.Settings.{AreInRange};
-ghost use Rattle.ground_report.specs.Subject.{IsAbout};
 ghost use Rattle.sidb_io.specs.Outside.{HasFault};
 ghost use Rattle.sim_cli.specs.Answer.{IsAnswerFor, IsTaskAnswer};
-ghost use Rattle.sim_cli.specs.Run.{Ran, Wrote};
+ghost use Rattle.sim_cli.specs.Run.{ForBytesLeft, Ran, Wrote};
 
 use crate::Status;
 use crate::output::{answer_ground, answer_potentials, refuse_input};
@@ -27,14 +26,13 @@ pub fn answer_task<R: Threads + Sync, S: Source, K: Sink, G: Gate>(
     gate: &G,
 ) -> Status
     requires { AreInRange settings.now }
-    ensures answer { IfSome (S.left source.old) (λ bytes. Ran (IsTaskAnswer settings.now bytes)
-        result (K.written sink.old) (K.written sink.new)) }
+    ensures answer { ForBytesLeft (S.left source.old) (λ bytes. Ran
+        (IsTaskAnswer settings.now bytes) result (K.written sink.old) (K.written sink.new)) }
     ensures read_fault { result ≡ Status.ReadFault
         → HasFault (S.faults source.old) (S.faults source.new) }
     ensures write_fault { result ≡ Status.WriteFault
         → HasFault (K.faults sink.old) (K.faults sink.new) }
     ensures read { result ≡ Status.Answered → IsAtEnd (S.left source.new) }
-    ensures memory { result ≡ Status.Memory → K.written sink.new ≡ K.written sink.old }
     ensures known { result ≢ Status.Words }
 {
     match read_all(alloc, source, MAX_INPUT_BYTES) {
@@ -73,8 +71,7 @@ fn answer_input<R: Threads + Sync, K: Sink, G: Gate>(
     sink: &mut K,
     gate: &G,
 ) -> Status
-    requires settings { AreInRange settings.now }
-    requires input { IsAbout input.now.about input.now.problem }
+    requires { AreInRange settings.now }
     ensures { Wrote (IsAnswerFor settings.now.task settings.now input.now.about input.now.problem)
         (K.faults sink.old) (K.faults sink.new) result (K.written sink.old) (K.written sink.new) }
 {

@@ -1,11 +1,11 @@
-ghost use Rattle.std.specs.Prelude.{◌≡◌, IfSome};
+ghost use Rattle.std.specs.Prelude.{◌≡◌, ◌⊎◌};
 ghost use Rattle.std.specs.Io.KnownBytes.{IsAtEnd};
 ghost use Rattle.sidb_io.specs.Outside.{HasFault};
 ghost use Rattle.command_words.specs.declared.settings.Settings.{Settings};
 ghost use Rattle.command_words.specs.Settings.{IsSettingsOf};
-ghost use Rattle.sim_cli.specs.Answer.{IsAnswer};
+ghost use Rattle.sim_cli.specs.Answer.{AreRefused, IsAnswer};
 ghost use Rattle.sim_cli.specs.Headline.{TellsGroundStates};
-ghost use Rattle.sim_cli.specs.Run.{IsReadFault, IsUnread, Ran, WroteWhole};
+ghost use Rattle.sim_cli.specs.Run.{ForBytesLeft, IsReadFault, IsUnread, Ran, WroteWhole};
 
 use crate::Status;
 use crate::output::refuse_words;
@@ -30,15 +30,15 @@ fn answer_words<R: Threads + Sync, S: Source, K: Sink, G: Gate>(
     sink: &mut K,
     gate: &G,
 ) -> Status
-    ensures answer { IfSome (S.left source.old) (λ bytes. Ran (IsAnswer words.now bytes)
+    ensures answer { ForBytesLeft (S.left source.old) (λ bytes. Ran (IsAnswer words.now bytes)
         result (K.written sink.old) (K.written sink.new)) }
     ensures read_fault { result ≡ Status.ReadFault
         → HasFault (S.faults source.old) (S.faults source.new) }
     ensures write_fault { result ≡ Status.WriteFault
         → HasFault (K.faults sink.old) (K.faults sink.new) }
     ensures read { result ≡ Status.Answered → IsAtEnd (S.left source.new) }
-    ensures unread { result ≡ Status.Words → IsUnread (S.left source.old) (S.left source.new)
-        (S.faults source.old) (S.faults source.new) }
+    ensures unread { (result ≡ Status.Words) ⊎ AreRefused words.now → IsUnread
+        (S.left source.old) (S.left source.new) (S.faults source.old) (S.faults source.new) }
     ensures meant { result ≡ Status.ReadFault
         → ((settings : Settings) × IsSettingsOf words.now settings) }
 {
@@ -53,8 +53,7 @@ fn answer_words<R: Threads + Sync, S: Source, K: Sink, G: Gate>(
 /// writes the answer, or the line of a fault.
 ///
 /// The first refusal decides: of the words, a failed read, of the input, the limit of nodes, a list
-/// that is too long, a failed write. Where memory does not suffice, what was written is the first
-/// bytes of the text that was to be written.
+/// that is too long, a failed write. Where memory does not suffice nothing was written.
 pub fn run<R: Threads + Sync, S: Source, K: Sink, G: Gate>(
     rt: &R,
     alloc: Global,
@@ -63,17 +62,17 @@ pub fn run<R: Threads + Sync, S: Source, K: Sink, G: Gate>(
     sink: &mut K,
     gate: &G,
 ) -> Status
-    ensures answer { IfSome (S.left source.old) (λ bytes. Ran (IsAnswer words.now bytes)
+    ensures answer { ForBytesLeft (S.left source.old) (λ bytes. Ran (IsAnswer words.now bytes)
         result (K.written sink.old) (K.written sink.new)) }
-    ensures each_table { result ≡ Status.Answered → IfSome (S.left source.old) (λ bytes.
+    ensures each_table { result ≡ Status.Answered → ForBytesLeft (S.left source.old) (λ bytes.
         WroteWhole (TellsGroundStates words.now bytes) (K.written sink.old) (K.written sink.new)) }
     ensures read_fault { result ≡ Status.ReadFault
         → IsReadFault words.now (S.faults source.old) (S.faults source.new) }
     ensures write_fault { result ≡ Status.WriteFault
         → HasFault (K.faults sink.old) (K.faults sink.new) }
     ensures read { result ≡ Status.Answered → IsAtEnd (S.left source.new) }
-    ensures unread { result ≡ Status.Words → IsUnread (S.left source.old) (S.left source.new)
-        (S.faults source.old) (S.faults source.new) }
+    ensures unread { (result ≡ Status.Words) ⊎ AreRefused words.now → IsUnread
+        (S.left source.old) (S.left source.new) (S.faults source.old) (S.faults source.new) }
 {
     one_meaning();
     spans_hold_distances();

@@ -1,6 +1,6 @@
 ghost use Rattle.std.specs.Prelude.{◌≡◌, ◌++◌, string_bytes, IfOk};
 ghost use Rattle.text_rows.specs.Rows.{text_of};
-ghost use Rattle.ground_report.specs.Subject.{AreOf, IsAbout};
+ghost use Rattle.ground_report.specs.Subject.{AreOf};
 ghost use Rattle.sim_report.specs.GroundText.{IsGroundText, count_rows, layout_rows, title_rows};
 
 use crate::layout::layout_lines;
@@ -23,7 +23,6 @@ pub fn ground_text(
     energies: bool,
 ) -> Result<String, Memory>
     requires entries { AreOf problem.now list.now }
-    requires layout { IsAbout about.now problem.now }
     ensures text { IfOk result (λ text.
         IsGroundText about.now problem.now list.now energies (string_bytes text)) }
 {

@@ -1,6 +1,6 @@
-ghost use Rattle.std.specs.Prelude.{◌≡◌, [], ◌∷◌, IfOk, IfSome, length};
+ghost use Rattle.std.specs.Prelude.{◌≡◌, [], ◌∷◌, IfOk};
 ghost use Rattle.charge_model.specs.Problem.{Problem as ProblemData};
-ghost use Rattle.ground_report.specs.Subject.{AreOf, IsAbout};
+ghost use Rattle.ground_report.specs.Subject.{AreOf};
 
 use crate::{About, ground_json, ground_text};
 use charge_model::{Charge, Deciding, Mark, Test, span_between};
@@ -105,26 +105,16 @@ fn certain_triple(alloc: Global) -> Result<GroundList, Memory>
     Ok(list_of(entries))
 }
 
-/// What a report is about, where the layout has two sites.
-fn about_two(layout: Layout, skipped: u64) -> About
-    ensures { IfSome result.layout (λ l. length l.sites ≡ 2) }
-{
-    if layout.len() == 2 {
-        return About {
-            layout: Some(layout),
-            skipped,
-        };
-    }
+/// What a report of a layout is about.
+fn about_layout(layout: Layout, skipped: u64) -> About {
     About {
-        layout: None,
+        layout: Some(layout),
         skipped,
     }
 }
 
 /// Two sites and a fixed charge on a lattice with a shorter step along a row, and one skipped item.
-fn about_closer(alloc: Global) -> Result<About, LayoutFault>
-    ensures { IfOk result (λ a. IfSome a.layout (λ l. length l.sites ≡ 2)) }
-{
+fn about_closer(alloc: Global) -> Result<About, LayoutFault> {
     let site = Site { n: 4, m: -5, l: 0 };
     let fixes = [Fix { site, charge: -3 }];
     let lattice = match lattice_of(225, 0, 0, 768, 0, 225) {
@@ -132,7 +122,7 @@ fn about_closer(alloc: Global) -> Result<About, LayoutFault>
         None => default_lattice(),
     };
     let layout = layout_on(alloc, lattice, &SITES, &fixes)?;
-    Ok(about_two(layout, 1))
+    Ok(about_layout(layout, 1))
 }
 
 /// A report as text and as JSON.
@@ -150,8 +140,7 @@ fn both_forms(
     list: &GroundList,
     energies: bool,
 ) -> Result<Reports, Memory>
-    requires entries { AreOf problem.now list.now }
-    requires layout { IsAbout about.now problem.now }
+    requires { AreOf problem.now list.now }
 {
     let text = ground_text(alloc, about, problem, list, energies)?;
     let json = ground_json(alloc, about, problem, list, energies)?;
@@ -171,7 +160,7 @@ fn neighbours(rt: HostRuntime) -> Result<(), Fail> {
     let alloc = rt.alloc();
     let problem = two_sites(alloc)?;
     let list = certain_pairs(alloc)?;
-    let about = about_two(layout_on(alloc, default_lattice(), &SITES, &[])?, 0);
+    let about = about_layout(layout_on(alloc, default_lattice(), &SITES, &[])?, 0);
     let reports = both_forms(alloc, &about, &problem, &list, false)?;
     assert_eq!(rt; reports.text.as_str(), NEIGHBOURS);
     assert_eq!(rt; reports.json.as_str(), NEIGHBOURS_JSON);

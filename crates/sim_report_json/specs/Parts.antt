@@ -17,10 +17,11 @@ use Rattle.sidb_layout.specs.Layout.{Arrangement}
 use Rattle.entry_lines.specs.EntryLines.{test_word}
 use Rattle.ground_report.specs.Subject.{is_silicon}
 
--- whole numbers
+-- a number that is not below 0
 abbrev pub natural : ℕ → Data
 natural n = number (unsigned n)
 
+-- a whole number
 abbrev pub whole : ℤ → Data
 whole z = number (of_integer z)
 
@@ -38,10 +39,11 @@ abbrev pub put_optional : List ℕ → Option Data → Members → Members
 put_optional key None members = members
 put_optional key (Some d) members = put key d members
 
--- the place of a site, and a fixed charge: its place and then its charge
+-- the place of a site
 abbrev pub site_data : Site → Data
 site_data s = whole_numbers (s.n ∷ s.m ∷ s.l ∷ [])
 
+-- a fixed charge: its place and then its charge
 abbrev pub fix_data : Fix → Data
 fix_data f = whole_numbers (f.site.n ∷ f.site.m ∷ f.site.l ∷ f.charge ∷ [])
 
@@ -54,11 +56,12 @@ abbrev pub sites_data : Option Arrangement → Data
 sites_data None = array no_items
 sites_data (Some l) = array (items_of (map site_data l.sites))
 
--- the fixed charges of a layout, where it has any
+-- fixed charges, where there are any
 abbrev pub fixes_data : List Fix → Option Data
 fixes_data [] = None
 fixes_data (f ∷ fs) = Some (array (items_of (map fix_data (f ∷ fs))))
 
+-- the fixed charges of a layout, where there is one that has any
 abbrev pub fixed_data : Option Arrangement → Option Data
 fixed_data None = None
 fixed_data (Some l) = fixes_data l.fixes
@@ -85,11 +88,12 @@ deciding_data (Rival j s) = object (member (codes "entry") (natural j)
     (member (codes "greatest") (whole s.hi) (member (codes "kind") (string (codes "rival"))
     (member (codes "least") (whole s.lo) no_members))))
 
--- the word of a mark, and what an unresolved one names
+-- the word of a mark
 abbrev pub mark_word : Mark → List ℕ
 mark_word Certain = codes "certain"
 mark_word (Unresolved d) = codes "unresolved"
 
+-- what an unresolved mark names
 abbrev pub mark_data : Mark → Option Data
 mark_data Certain = None
 mark_data (Unresolved d) = Some (deciding_data d)

@@ -1,4 +1,4 @@
-use Rattle.std.proofs.Common.{◌∙◌, arith, inl, inr, refl}
+use Rattle.std.proofs.Common.{arith, inl, inr, refl}
 use Rattle.sim_cli.specs.Answer.{IsBudgetAnswer, IsGroundAnswer}
 use Rattle.sim_cli.proofs.Writing.{wrote_also, wrote_list_too_long}
 use Rattle.sim_cli.proofs.output.answer_ground.Goals as goal
@@ -20,4 +20,4 @@ returns-in-Budget g c =
 
 pub returns-in-ListTooLong : goal.returns-in-ListTooLong
 returns-in-ListTooLong g c =
-    wrote_list_too_long (IsGroundAnswer c.args.settings.now c.args.input.now.about c.args.input.now.problem) _ _ _ _ _ _ (inr (inr (refl, c.in-ListTooLong.ensures.answer, c.as_bytes.ensures.value ∙ c.list_too_long_line.ensures))) c.written.ensures
+    wrote_list_too_long (IsGroundAnswer c.args.settings.now c.args.input.now.about c.args.input.now.problem) _ _ _ _ _ _ (inr (inr (refl, c.in-ListTooLong.ensures.answer, refl))) c.answer_long_list.ensures

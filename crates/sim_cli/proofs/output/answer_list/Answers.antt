@@ -5,8 +5,8 @@ use Rattle.sim_cli.proofs.Answering.{entries_of}
 use Rattle.sim_cli.proofs.Writing.{wrote_answered}
 use Rattle.sim_cli.proofs.output.answer_list.Goals as goal
 
-pub report_of-requires-clause-entries : goal.report_of-requires-clause-entries
-report_of-requires-clause-entries g c = entries_of c.args.input.now.problem c.args.list.now c.requires.list
+pub report_of-requires : goal.report_of-requires
+report_of-requires g c = entries_of c.args.input.now.problem c.args.list.now c.requires.list
 
 pub returns-in-Ok : goal.returns-in-Ok
 returns-in-Ok g c =

@@ -1,8 +1,8 @@
-use Rattle.std.proofs.Common.{ap, inl, Err}
+use Rattle.std.proofs.Common.{ap, inl, refl, Err}
 use Rattle.fault_lines.specs.declared.input_fault.InputFault.TheVariants.{TooLong}
 use Rattle.sim_cli.specs.Answer.{IsFaultAnswer, IsTaskAnswer}
 use Rattle.sim_cli.proofs.Told.{told_all, told_more}
-use Rattle.sim_cli.proofs.Writing.{ran_wrote, wrote_also}
+use Rattle.sim_cli.proofs.Writing.{left_all, ran_wrote, wrote_also}
 use Rattle.sim_cli.proofs.task.answer_task.Goals as goal
 
 pub returns-in-Ok-clause-answer : goal.returns-in-Ok-clause-answer
@@ -15,3 +15,9 @@ returns-in-Err-TooLong-clause-answer g c =
     let gave = c.in-Err-TooLong.ensures.too_long (ap Err c.in-Err-TooLong.field-0-is) in
     told_more _ _ _ _ gave.0 gave.2 gave.1 (λ all more. ran_wrote (IsTaskAnswer c.args.settings.now all) _ _ _ _ _
     (wrote_also (IsFaultAnswer TooLong) (IsTaskAnswer c.args.settings.now all) (λ status text is. inl (record { fault = TooLong; refuses = more; tells = is })) _ _ _ _ _ c.refuse_input.ensures))
+
+pub returns-in-Err-ReadFault-clause-answer : goal.returns-in-Err-ReadFault-clause-answer
+returns-in-Err-ReadFault-clause-answer g c = left_all _ _ (λ bytes. refl)
+
+pub returns-in-Err-Memory-clause-answer : goal.returns-in-Err-Memory-clause-answer
+returns-in-Err-Memory-clause-answer g c = left_all _ _ (λ bytes. refl)
