@@ -1,0 +1,17 @@
+# Has each crate of crates.txt its heading in docs/PROMISES.md and its row in docs/CHAIN.md, and is
+# each such heading a crate? Reads the three in this order.
+
+reading == "crates" { if (crate_of_line($0) != "") is_crate[crate_of_line($0)] = 1 }
+reading == "promises" && /^### / { take_heading($2) }
+reading == "chain" && /^\| [a-z_0-9]+ \|/ { has_chain_row[$2] = 1 }
+END { for (crate in is_crate) check_crate(crate) }
+
+function take_heading(crate) {
+    has_heading[crate] = 1
+    if (!(crate in is_crate)) fault("no crate " crate)
+}
+
+function check_crate(crate) {
+    if (!(crate in has_heading)) fault_of_all("no heading " crate " in docs/PROMISES.md")
+    if (!(crate in has_chain_row)) fault_of_all("no row " crate " in docs/CHAIN.md")
+}
