@@ -1,5 +1,5 @@
 -- what is no answer, and no run
-use Rattle.std.proofs.Common.{◌≡◌, ℕ, refl, inl, inr, List, [], ◌∷◌, ◌++◌, codes, get_or, ap, Option, None, Some, arith}
+use Rattle.std.proofs.Common.{◌≡◌, ℕ, refl, inl, inr, List, [], ◌∷◌, ◌++◌, codes, get_or, length, ap, Option, None, Some, arith}
 use Rattle.std.specs.Fmt.{digits}
 use Rattle.charge_model.specs.Problem.{Problem}
 use Rattle.sidb_io.specs.Outside.{HasFault}
@@ -14,7 +14,7 @@ use Rattle.sim_cli.specs.declared.status.Status.{Status}
 use Rattle.sim_cli.specs.declared.status.Status.TheVariants.{Answered, Words, Input, Budget, ListTooLong, ReadFault, WriteFault, Memory}
 use Rattle.sim_cli.specs.Answer.{IsAnswer, IsAnswerFor, IsBudgetAnswer, IsFaultAnswer, IsTableAnswer, IsTaskAnswer}
 use Rattle.sim_cli.specs.Headline.{HoldsUnderEachTable}
-use Rattle.sim_cli.specs.Run.{ForBytesLeft, IsReadFault, IsUnread, IsWritten, Ran, Wrote}
+use Rattle.sim_cli.specs.Run.{ForBytesLeft, IsAfterReading, IsReadFault, IsUnread, IsWritten, Ran, Wrote}
 use Rattle.sim_cli.proofs.StandardFacts.{empty, ground_state, is_table, stray, stray_is_refused, table}
 
 -- refused words get no other answer, and no other line
@@ -91,6 +91,25 @@ taken is = let wrong = is.left in absurd (cc)
 
 counted : IsUnread None None 0 1 → ⊥
 counted is = let wrong = is.faults in omega (arith, wrong)
+
+-- what may come before the source was read to its end
+long_input : (words : List (List ℕ)) (left : Option (List ℕ)) → IsAfterReading words left (Input TooLong) → ⊥
+long_input words left is = is refl
+
+refused_words : (words : List (List ℕ)) (left : Option (List ℕ)) → IsAfterReading words left Words → ⊥
+refused_words words left is = is
+
+failed_read : (words : List (List ℕ)) (left : Option (List ℕ)) → IsAfterReading words left ReadFault → ⊥
+failed_read words left is = is
+
+want_of_memory : (words : List (List ℕ)) (left : Option (List ℕ)) → IsAfterReading words left Memory → ⊥
+want_of_memory words left is = is
+
+failed_write_of_refused : (left : Option (List ℕ)) → IsAfterReading stray left WriteFault → ⊥
+failed_write_of_refused left is = stray_is_refused is.settings is.meant
+
+failed_write_of_long : (words : List (List ℕ)) (bytes : List ℕ) → length bytes ≡ 1048577 → IsAfterReading words (Some bytes) WriteFault → ⊥
+failed_write_of_long words bytes more is = omega (arith, more, is.short)
 
 read_fault_of_refused : (before after : ℕ) → IsReadFault stray before after → ⊥
 read_fault_of_refused before after is = stray_is_refused is.settings is.meant

@@ -1,5 +1,5 @@
 -- exit statuses and answers worked by hand
-use Rattle.std.proofs.Common.{◌≡◌, ℕ, pos, ◌≤ℤ◌, refl, sym, subst, inl, inr, lit≤, List, [], ◌∷◌, ◌++◌, codes, length, None, Some, arith}
+use Rattle.std.proofs.Common.{◌≡◌, ℕ, pos, ◌≤ℤ◌, refl, sym, subst, inl, inr, lit≤, List, [], ◌∷◌, ◌++◌, codes, length, Option, None, Some, arith}
 use Rattle.std.specs.Fmt.{digits}
 use Rattle.std.specs.Prelude.{Contains}
 use Rattle.std.proofs.lemmas.List.Elements.{All-nil, All-cons, All-contains}
@@ -12,17 +12,18 @@ use Rattle.charge_model.specs.declared.mark.Mark.TheVariants.{Certain, Unresolve
 use Rattle.charge_model.specs.Problem.{Problem, Table, IsTable}
 use Rattle.charge_model.specs.Rules.{energy, at_site, by_hop, Inequality, IsChargeList, IsGroundState, IsInequalityOf, slack}
 use Rattle.charge_model.specs.GroundList.{Entry}
+use Rattle.sqd_layout.specs.declared.fault.SqdFault.TheVariants.{NotSiqad}
 use Rattle.command_words.specs.declared.settings.Settings.{Settings}
 use Rattle.command_words.specs.Command.{sidb_command, refusals_of}
 use Rattle.command_words.specs.Settings.{IsSettingsOf}
 use Rattle.ground_state.specs.Answer.{IsOverBudget}
 use Rattle.ground_report.specs.declared.about.About.{About}
-use Rattle.fault_lines.specs.declared.input_fault.InputFault.TheVariants.{TooLong}
+use Rattle.fault_lines.specs.declared.input_fault.InputFault.TheVariants.{Layout, TooLong}
 use Rattle.sim_cli.specs.declared.status.Status.{Status}
 use Rattle.sim_cli.specs.declared.status.Status.TheVariants.{Answered, Words, Input, Budget, ListTooLong, ReadFault, WriteFault, Memory}
 use Rattle.sim_cli.specs.Answer.{AreRefused, IsAnswer, IsFaultAnswer, IsGroundAnswer, IsTableAnswer}
 use Rattle.sim_cli.specs.Headline.{HoldsUnderEachTable}
-use Rattle.sim_cli.specs.Run.{ForBytesLeft, IsUnread, IsWritten, Ran, code_of}
+use Rattle.sim_cli.specs.Run.{ForBytesLeft, IsAfterReading, IsUnread, IsWritten, Ran, code_of}
 
 -- a text and its line feed
 abbrev pub line : List ℕ → List ℕ
@@ -161,6 +162,20 @@ cut_off = inr (refl, inl (lit≤ tt), (1, refl))
 
 unread : IsUnread (Some (1 ∷ [])) (Some (1 ∷ [])) 4 4
 unread = record { left = refl; faults = refl }
+
+-- statuses that come only after the source was read to its end
+pub record AfterReading (words : List (List ℕ)) (left : Option (List ℕ)) : Type 0 where
+  pub answered : IsAfterReading words left Answered
+  pub input : IsAfterReading words left (Input (Layout NotSiqad))
+  pub budget : IsAfterReading words left Budget
+  pub list_too_long : IsAfterReading words left ListTooLong
+
+after_reading : (words : List (List ℕ)) (left : Option (List ℕ)) → AfterReading words left
+after_reading words left = record { answered = tt; input = λ same. absurd (cc); budget = tt; list_too_long = tt }
+
+-- an input of one byte is to be read whole, also where a write fails
+one_byte : (words : List (List ℕ)) (s : Settings) → IsSettingsOf words s → IsAfterReading words (Some (1 ∷ [])) WriteFault
+one_byte words s means = record { settings = s; meant = means; short = lit≤ tt }
 
 told : ForBytesLeft (Some (1 ∷ [])) (λ bytes. bytes ≡ 1 ∷ [])
 told = refl

@@ -1,8 +1,10 @@
 -- what a run answers and writes, want of memory and faults of the outside included
-use Rattle.std.specs.Prelude.{◌≡◌, ◌⊎◌, ℕ, List, Option, None, Some}
+use Rattle.std.specs.Prelude.{◌≡◌, ◌≢◌, ◌⊎◌, ℕ, ◌≤◌, List, length, Option, None, Some, ⊤}
+use Rattle.sidb_units.specs.declared.TheConstants.{MAX_INPUT_BYTES}
 use Rattle.sidb_io.specs.Outside.{HasFault, Took, TookFront}
 use Rattle.command_words.specs.declared.settings.Settings.{Settings}
 use Rattle.command_words.specs.Settings.{IsSettingsOf}
+use Rattle.fault_lines.specs.declared.input_fault.InputFault.TheVariants.{TooLong}
 use Rattle.sim_cli.specs.declared.status.Status.{Status}
 use Rattle.sim_cli.specs.declared.status.Status.TheVariants.{Answered, Words, Input, Budget, ListTooLong, ReadFault, WriteFault, Memory}
 
@@ -47,6 +49,22 @@ IsWritten status text before after result old new = ((result ≡ status) × Took
 pub record IsUnread (old new : Option (List ℕ)) (before after : ℕ) : Type 0 where
   pub left : new ≡ old
   pub faults : after ≡ before
+
+-- the input is to be read whole: the words mean something, and it is not too long
+pub record IsReadWhole (words : List (List ℕ)) (left : Option (List ℕ)) : Type 0 where
+  pub settings : Settings
+  pub meant : IsSettingsOf words settings
+  pub short : ForBytesLeft left (λ bytes. length bytes ≤ MAX_INPUT_BYTES)
+
+-- a run ends so only after it read its source to the end: with an answer, or a refusal of what the
+-- whole input says; with a failed write where the input is to be read whole
+abbrev pub IsAfterReading : List (List ℕ) → Option (List ℕ) → Status → Type 0
+IsAfterReading words left Answered = ⊤
+IsAfterReading words left (Input fault) = fault ≢ TooLong
+IsAfterReading words left Budget = ⊤
+IsAfterReading words left ListTooLong = ⊤
+IsAfterReading words left WriteFault = IsReadWhole words left
+IsAfterReading words left status = ⊥
 
 -- a failed read was counted, and the words meant something
 pub record IsReadFault (words : List (List ℕ)) (before after : ℕ) : Type 0 where

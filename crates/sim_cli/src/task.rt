@@ -1,10 +1,10 @@
 // The answer to settings that words mean.
-ghost use Rattle.std.specs.Prelude.{◌≡◌, ◌≢◌};
+ghost use Rattle.std.specs.Prelude.{◌≡◌, ◌≢◌, ℕ, List};
 ghost use Rattle.std.specs.Io.KnownBytes.{IsAtEnd};
 ghost use Rattle.command_words.specs.Settings.{AreInRange};
 ghost use Rattle.sidb_io.specs.Outside.{HasFault};
 ghost use Rattle.sim_cli.specs.Answer.{IsAnswerFor, IsTaskAnswer};
-ghost use Rattle.sim_cli.specs.Run.{ForBytesLeft, Ran, Wrote};
+ghost use Rattle.sim_cli.specs.Run.{ForBytesLeft, IsAfterReading, Ran, Wrote};
 
 use crate::Status;
 use crate::output::{answer_ground, answer_potentials, refuse_input};
@@ -32,7 +32,8 @@ pub fn answer_task<R: Threads + Sync, S: Source, K: Sink, G: Gate>(
         → HasFault (S.faults source.old) (S.faults source.new) }
     ensures write_fault { result ≡ Status.WriteFault
         → HasFault (K.faults sink.old) (K.faults sink.new) }
-    ensures read { result ≡ Status.Answered → IsAtEnd (S.left source.new) }
+    ensures read { (words : List (List ℕ)) → IsAfterReading words (S.left source.old) result
+        → IsAtEnd (S.left source.new) }
     ensures known { result ≢ Status.Words }
 {
     match read_all(alloc, source, MAX_INPUT_BYTES) {

@@ -5,7 +5,7 @@ ghost use Rattle.command_words.specs.declared.settings.Settings.{Settings};
 ghost use Rattle.command_words.specs.Settings.{IsSettingsOf};
 ghost use Rattle.sim_cli.specs.Answer.{AreRefused, IsAnswer};
 ghost use Rattle.sim_cli.specs.Headline.{TellsGroundStates};
-ghost use Rattle.sim_cli.specs.Run.{ForBytesLeft, IsReadFault, IsUnread, Ran, WroteWhole};
+ghost use Rattle.sim_cli.specs.Run.{ForBytesLeft, IsAfterReading, IsReadFault, IsUnread, Ran, WroteWhole};
 
 use crate::Status;
 use crate::output::refuse_words;
@@ -36,7 +36,8 @@ fn answer_words<R: Threads + Sync, S: Source, K: Sink, G: Gate>(
         → HasFault (S.faults source.old) (S.faults source.new) }
     ensures write_fault { result ≡ Status.WriteFault
         → HasFault (K.faults sink.old) (K.faults sink.new) }
-    ensures read { result ≡ Status.Answered → IsAtEnd (S.left source.new) }
+    ensures read { IsAfterReading words.now (S.left source.old) result
+        → IsAtEnd (S.left source.new) }
     ensures unread { (result ≡ Status.Words) ⊎ AreRefused words.now → IsUnread
         (S.left source.old) (S.left source.new) (S.faults source.old) (S.faults source.new) }
     ensures meant { result ≡ Status.ReadFault
@@ -49,8 +50,8 @@ fn answer_words<R: Threads + Sync, S: Source, K: Sink, G: Gate>(
     }
 }
 
-/// All that the program does with the words after its name: it reads its input to the end and
-/// writes the answer, or the line of a fault.
+/// All that the program does with the words after its name: where they mean something it reads its
+/// input, and it writes the answer or the line of a fault.
 ///
 /// The first refusal decides: of the words, a failed read, of the input, the limit of nodes, a list
 /// that is too long, a failed write. Where memory does not suffice nothing was written.
@@ -70,7 +71,8 @@ pub fn run<R: Threads + Sync, S: Source, K: Sink, G: Gate>(
         → IsReadFault words.now (S.faults source.old) (S.faults source.new) }
     ensures write_fault { result ≡ Status.WriteFault
         → HasFault (K.faults sink.old) (K.faults sink.new) }
-    ensures read { result ≡ Status.Answered → IsAtEnd (S.left source.new) }
+    ensures read { IsAfterReading words.now (S.left source.old) result
+        → IsAtEnd (S.left source.new) }
     ensures unread { (result ≡ Status.Words) ⊎ AreRefused words.now → IsUnread
         (S.left source.old) (S.left source.new) (S.faults source.old) (S.faults source.new) }
 {
