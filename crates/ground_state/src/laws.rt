@@ -28,7 +28,8 @@ pub fn one_answer()
     one_least_certain();
 }
 
-/// The list of a solution is the problem's, within the budget.
+/// The list of a solution, where it has at most `MAX_ENTRIES` entries, is the problem's, within the
+/// budget.
 #[tactic(auto, using(crate::proofs::OneAnswer::solution_is_listed))]
 pub fn solutions_are_listed()
     ensures { (p : Problem) (limit : ℕ) (s : Solved) → IsSolution p limit s
