@@ -1,4 +1,5 @@
-//! Possibly valid charge lists with their energies: which of them no list beats, and their marks.
+//! Possibly valid charge lists with their energies: which of them no list beats by a
+//! window, and their marks.
 #![tactic(auto)]
 
 mod bounds;
@@ -11,5 +12,5 @@ mod winners;
 
 pub use bounds::lies_above;
 pub use candidate::{Candidate, candidate_of};
-pub use found::ground_list_of;
-pub use prune_certificate::{Deciding, Entry, GroundList, Mark};
+pub use found::{ground_list_of, window_list_of};
+pub use ground_entries::{Deciding, Entry, GroundList, Mark};

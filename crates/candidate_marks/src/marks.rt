@@ -1,36 +1,43 @@
-ghost use Rattle.std.specs.Prelude.{◌≡◌, ◌≤ℤ◌, ◌<ℤ◌, ◌-ℤ◌, map, IfOk, All, MatchOption};
-ghost use Rattle.charge_model.specs.Problem.{UnderEveryTable};
-ghost use Rattle.charge_model.specs.Rules.{energy, IsCertainlyValid};
-ghost use Rattle.charge_model.specs.GroundList.{IsDeciding, IsMark, lists_of};
-ghost use Rattle.prune_certificate.specs.Seen.{seen};
-ghost use Rattle.candidate_marks.specs.Candidates.{IsWeighed, IsNotAbove, AreNotAbove, IsSometimesLower, charges_of};
+ghost use Rattle.std.specs.Prelude.{◌≡◌, ◌<◌, ◌≤ℤ◌, length, map, IfOk, All, MatchOption};
+ghost use Rattle.charge_model.specs.Rules.{IsCertainlyValid};
+ghost use Rattle.charge_model.specs.GroundList.{lists_of};
+ghost use Rattle.window_model.specs.Windows.{IsDecidingWithin, IsMarkWithin};
+ghost use Rattle.ground_entries.specs.Seen.{seen};
+ghost use Rattle.candidate_marks.specs.Candidates.{IsWeighed, IsLowest, IsNotAbove, AreNotAbove, IsSometimesLower, charges_of};
 
 use crate::candidate::{Candidate, gap_span};
-use crate::ends::{begins_below_end, begins_below_zero};
+use crate::ends::{begins_below, begins_below_end, begins_below_zero};
 use charge_validity::own_mark;
+use linear_form::laws::least_values_decide;
 use potential_problem::{Problem, Span};
-use prune_certificate::{Deciding, Entry, Mark};
+use ground_entries::{Deciding, Entry, Mark};
 use sidb_units::Memory;
 use std::alloc::Global;
+use window_model::Window;
 
-/// The least and the greatest energy of the rival less that of the candidate, if some table puts
-/// the rival lower.
+/// The least and the greatest energy of the rival and the window less that of the candidate, if
+/// some table puts the rival lower by more than the window.
+///
+/// One whose least energy and the window reach the candidate's greatest energy is put so by none:
+/// this spares most sums.
 fn lower_rival(
     alloc: Global,
     problem: &Problem,
+    window: &Window,
     rival: &Candidate,
     candidate: &Candidate,
 ) -> Result<Option<Span>, Memory>
     requires rival { IsWeighed problem.now rival.now }
     requires candidate { IsWeighed problem.now candidate.now }
     ensures { IfOk result (λ o. MatchOption o
-        (IsNotAbove problem.now candidate.now.charges rival.now.charges)
-        (IsSometimesLower problem.now rival.now.charges candidate.now.charges)) }
+        (IsNotAbove problem.now window.now.width candidate.now.charges rival.now.charges)
+        (IsSometimesLower problem.now window.now.width rival.now.charges candidate.now.charges)) }
 {
-    if !begins_below_end(&rival.span, &candidate.span) {
+    least_values_decide();
+    if !begins_below_end(&rival.span, window, &candidate.span) {
         return Ok(None);
     }
-    let gap = gap_span(alloc, problem, rival, candidate)?;
+    let gap = gap_span(alloc, problem, window, rival, candidate)?;
     if begins_below_zero(&gap) {
         Ok(Some(gap))
     } else {
@@ -38,22 +45,31 @@ fn lower_rival(
     }
 }
 
-/// The first entry that some table puts below a certainly valid list.
+/// The first entry that some table puts below a certainly valid list by more than the window.
+///
+/// Where the lowest entry is put so by none, no entry is: this spares going through them.
 fn first_rival(
     alloc: Global,
     problem: &Problem,
+    window: &Window,
     list: &[Candidate],
+    lowest: &Candidate,
     candidate: &Candidate,
 ) -> Result<Option<Deciding>, Memory>
     requires list { All (IsWeighed problem.now) list.now }
+    requires lowest { IsLowest problem.now list.now lowest.now }
     requires candidate { IsWeighed problem.now candidate.now }
     requires valid { IsCertainlyValid problem.now candidate.now.charges }
     ensures { IfOk result (λ o. MatchOption o
-        (AreNotAbove problem.now candidate.now.charges (charges_of list.now))
-        (IsDeciding problem.now (charges_of list.now) candidate.now.charges)) }
+        (AreNotAbove problem.now window.now.width candidate.now.charges (charges_of list.now))
+        (IsDecidingWithin problem.now window.now.width (charges_of list.now)
+        candidate.now.charges)) }
 {
+    if !begins_below_end(&lowest.span, window, &candidate.span) {
+        return Ok(None);
+    }
     for j in 0..list.len() {
-        match lower_rival(alloc, problem, &list[j], candidate)? {
+        match lower_rival(alloc, problem, window, &list[j], candidate)? {
             Some(span) => return Ok(Some(Deciding::Rival(j, span))),
             None => {}
         }
@@ -61,21 +77,41 @@ fn first_rival(
     Ok(None)
 }
 
+/// A candidate whose least energy is the least.
+fn lowest<'a>(problem: &Problem, list: &'a [Candidate]) -> &'a Candidate
+    requires some { 0 < length list.now }
+    requires weighed { All (IsWeighed problem.now) list.now }
+    ensures { IsLowest problem.now list.now result.now }
+{
+    let _ = problem;
+    let mut lowest = &list[0];
+    for candidate in list {
+        if begins_below(&candidate.span, &lowest.span) {
+            lowest = candidate;
+        }
+    }
+    lowest
+}
+
 /// The mark of an entry of a list.
 fn mark_of(
     alloc: Global,
     problem: &Problem,
+    window: &Window,
     list: &[Candidate],
+    lowest: &Candidate,
     candidate: &Candidate,
 ) -> Result<Mark, Memory>
     requires list { All (IsWeighed problem.now) list.now }
+    requires lowest { IsLowest problem.now list.now lowest.now }
     requires candidate { IsWeighed problem.now candidate.now }
-    ensures { IfOk result (IsMark problem.now (charges_of list.now) candidate.now.charges) }
+    ensures { IfOk result
+        (IsMarkWithin problem.now window.now.width (charges_of list.now) candidate.now.charges) }
 {
     let own = own_mark(alloc, problem, &candidate.charges)?;
     match own {
         Mark::Unresolved(deciding) => Ok(Mark::Unresolved(deciding)),
-        Mark::Certain => match first_rival(alloc, problem, list, candidate)? {
+        Mark::Certain => match first_rival(alloc, problem, window, list, lowest, candidate)? {
             Some(rival) => Ok(Mark::Unresolved(rival)),
             None => Ok(Mark::Certain),
         },
@@ -86,16 +122,22 @@ fn mark_of(
 pub fn entries_of(
     alloc: Global,
     problem: &Problem,
+    window: &Window,
     list: &[Candidate],
 ) -> Result<Vec<Entry>, Memory>
     requires { All (IsWeighed problem.now) list.now }
     ensures charges { IfOk result (λ v. lists_of (map seen v.items) ≡ charges_of list.now) }
     ensures marks { IfOk result (λ v.
-        All (λ e. IsMark problem.now (charges_of list.now) e.charges e.mark) (map seen v.items)) }
+        All (λ e. IsMarkWithin problem.now window.now.width (charges_of list.now) e.charges e.mark)
+        (map seen v.items)) }
 {
     let mut entries = Vec::new(alloc);
+    if list.is_empty() {
+        return Ok(entries);
+    }
+    let lowest = lowest(problem, list);
     for candidate in list {
-        let mark = mark_of(alloc, problem, list, candidate)?;
+        let mark = mark_of(alloc, problem, window, list, lowest, candidate)?;
         let charges = candidate.charges.copy();
         entries.push(Entry { charges, mark })?;
     }

@@ -4,13 +4,14 @@ ghost use Rattle.charge_model.specs.Rules.{IsCertainlyValid};
 ghost use Rattle.candidate_marks.specs.Candidates.{IsWeighed, AreWinners, WinsNothing};
 
 use crate::candidate::{Candidate, candidate_of};
-use crate::ends::begins_below;
+use crate::ends::{begins_below, begins_far_below};
 use charge_validity::laws::decided_lists_are_not_certain;
 use charge_validity::own_mark;
 use potential_problem::Problem;
-use prune_certificate::Mark;
+use ground_entries::Mark;
 use sidb_units::Memory;
 use std::alloc::Global;
+use window_model::Window;
 
 /// A candidate whose least energy is the greatest.
 fn highest(all: &[Candidate]) -> &Candidate
@@ -26,18 +27,20 @@ fn highest(all: &[Candidate]) -> &Candidate
     highest
 }
 
-/// Whether a list is certainly valid and its least energy is below that of another.
+/// Whether a list is certainly valid and its least energy is below that of another by more than
+/// the window.
 fn may_win(
     alloc: Global,
     problem: &Problem,
+    window: &Window,
     highest: &Candidate,
     candidate: &Candidate,
 ) -> Result<bool, Memory>
     requires { IsWeighed problem.now candidate.now }
     ensures { IfOk result (λ b. MatchBool b (IsCertainlyValid problem.now candidate.now.charges)
-        (WinsNothing problem.now highest.now candidate.now)) }
+        (WinsNothing problem.now window.now.width highest.now candidate.now)) }
 {
-    if !begins_below(&candidate.span, &highest.span) {
+    if !begins_far_below(&candidate.span, window, &highest.span) {
         return Ok(false);
     }
     decided_lists_are_not_certain();
@@ -47,20 +50,21 @@ fn may_win(
     }
 }
 
-/// The certainly valid ones of these lists, without some that beat none of them.
+/// The certainly valid ones of these lists, without some that beat none of them by the window.
 fn winners_below(
     alloc: Global,
     problem: &Problem,
+    window: &Window,
     highest: &Candidate,
     all: &[Candidate],
 ) -> Result<Vec<Candidate>, Memory>
     requires all { All (IsWeighed problem.now) all.now }
     requires highest { All (λ x. x.span.lo ≤ℤ highest.now.span.lo) all.now }
-    ensures { IfOk result (λ v. AreWinners problem.now all.now v.items) }
+    ensures { IfOk result (λ v. AreWinners problem.now window.now.width all.now v.items) }
 {
     let mut winners = Vec::new(alloc);
     for candidate in all {
-        let wins = may_win(alloc, problem, highest, candidate)?;
+        let wins = may_win(alloc, problem, window, highest, candidate)?;
         if wins {
             let winner = candidate_of(alloc, problem, &candidate.charges)?;
             winners.push(winner)?;
@@ -69,17 +73,18 @@ fn winners_below(
     Ok(winners)
 }
 
-/// The certainly valid ones of these lists, without some that beat none of them.
+/// The certainly valid ones of these lists, without some that beat none of them by the window.
 pub fn winners_among(
     alloc: Global,
     problem: &Problem,
+    window: &Window,
     all: &[Candidate],
 ) -> Result<Vec<Candidate>, Memory>
     requires { All (IsWeighed problem.now) all.now }
-    ensures { IfOk result (λ v. AreWinners problem.now all.now v.items) }
+    ensures { IfOk result (λ v. AreWinners problem.now window.now.width all.now v.items) }
 {
     if all.is_empty() {
         return Ok(Vec::new(alloc));
     }
-    winners_below(alloc, problem, highest(all), all)
+    winners_below(alloc, problem, window, highest(all), all)
 }

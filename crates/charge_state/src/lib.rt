@@ -5,8 +5,6 @@ mod charges;
 pub mod laws;
 mod order;
 mod test_order;
-#[cfg(test)]
-mod tests;
 mod text;
 
 pub use charge_model::{Charge, Test, number};

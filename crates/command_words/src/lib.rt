@@ -11,5 +11,3 @@ mod words;
 pub use settings::{Form, Settings, Task};
 pub use words::read_words;
 
-#[cfg(test)]
-mod tests;

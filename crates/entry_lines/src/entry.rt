@@ -1,11 +1,11 @@
 ghost use Rattle.std.specs.Prelude.{◌≡◌, string_bytes, IfOk};
 ghost use Rattle.std.specs.List.{join_with_byte};
-ghost use Rattle.prune_certificate.specs.Seen.{seen};
+ghost use Rattle.ground_entries.specs.Seen.{seen};
 ghost use Rattle.entry_lines.specs.EntryLines.{deciding_words, entry_words, mark_words, test_word};
 
 use charge_model::{Deciding, Mark, Test};
 use charge_state::print_charges;
-use prune_certificate::Entry;
+use ground_entries::Entry;
 use sidb_units::Memory;
 use std::alloc::Global;
 

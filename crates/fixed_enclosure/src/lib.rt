@@ -4,8 +4,6 @@
 pub mod laws;
 mod quotients;
 mod spans;
-#[cfg(test)]
-mod tests;
 
 pub use charge_model::{Span, span_between};
 pub use quotients::{mul_div_down, mul_div_up};

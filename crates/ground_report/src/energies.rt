@@ -7,7 +7,7 @@ use charge_model::Span;
 use charge_state::Charges;
 use linear_form::{energy_form, form_span};
 use potential_problem::Problem;
-use prune_certificate::GroundList;
+use ground_entries::GroundList;
 use sidb_units::Memory;
 use std::alloc::Global;
 

@@ -5,10 +5,12 @@ use Rattle.std.proofs.lemmas.List.{length-map}
 use Rattle.charge_model.specs.declared.charge.Charge.{Charge}
 use Rattle.charge_model.specs.Problem.{Problem}
 use Rattle.charge_model.specs.GroundList.{Entry, IsGroundList, lists_of}
-use Rattle.charge_model.specs.Tree.{IsLeastCertain, node_count}
-use Rattle.prune_certificate.specs.declared.ground_list.Solved.{Solved}
+use Rattle.charge_model.specs.Tree.{IsLeastCertain}
+use Rattle.ground_entries.specs.declared.ground_list.Solved.{Solved}
 use Rattle.sidb_units.specs.declared.TheConstants.{MAX_ENTRIES}
-use Rattle.ground_state.specs.Answer.{IsListedWithin, IsTooLongWithin, IsWithinBudget, IsOverBudget, IsSolution}
+use Rattle.window_model.specs.Windows.{IsWindowList}
+use Rattle.ground_state.specs.Answer.{IsListedWithin, IsTooLongWithin, IsSolution}
+use Rattle.ground_state.specs.Window.{IsWindowSolution, IsWindowTooLongWithin}
 
 pub not_both_lengths : ((p : Problem) (l m : List (List Charge)) → IsGroundList p l → IsGroundList p m → l ≡ m)
     → (p : Problem) (limit : ℕ) (es : List Entry) → IsListedWithin p limit es → IsTooLongWithin p limit → ⊥
@@ -18,16 +20,28 @@ not_both_lengths one p limit es listed long =
     let whole = length-map es (λ e. e.charges) in
     omega (arith, same, whole, listed.few, many.2)
 
-pub not_both_budgets : ((p : Problem) (a b : Option ℤ) → IsLeastCertain p a → IsLeastCertain p b → a ≡ b)
-    → (p : Problem) (limit : ℕ) → IsWithinBudget p limit → IsOverBudget p limit → ⊥
-not_both_budgets one p limit within over =
-    let same = ap (node_count p) (one p within.0 over.0 within.1 over.1) in
+-- the same for the window list
+pub not_both_window_lengths : ((p : Problem) (window : ℤ) (l m : List (List Charge)) → IsWindowList p window l → IsWindowList p window m → l ≡ m)
+    → (p : Problem) (window : ℤ) (limit : ℕ) (s : Solved) → IsWindowSolution p window limit s → length s.list ≤ MAX_ENTRIES → IsWindowTooLongWithin p window limit → ⊥
+not_both_window_lengths one p window limit s is few long =
+    let many = long.many in
+    let same = ap length (one p window (lists_of s.list) many.0 is.list.within many.1) in
+    let whole = length-map s.list (λ e. e.charges) in
+    omega (arith, same, whole, few, many.2)
+
+-- the count by a least certain energy keeps the limit or exceeds it, and not both
+pub not_both_budgets : ((p : Problem) (a b : Option ℤ) → IsLeastCertain p a → IsLeastCertain p b → a ≡ b) → (p : Problem) (limit : ℕ) (count : Option ℤ → ℕ)
+    → (bound : Option ℤ) × IsLeastCertain p bound × (count bound ≤ limit) → (bound : Option ℤ) × IsLeastCertain p bound × (limit < count bound) → ⊥
+not_both_budgets one p limit count within over =
+    let same = ap count (one p within.0 over.0 within.1 over.1) in
     omega (arith, same, within.2, over.2)
 
-pub budget_decided : (p : Problem) (limit : ℕ) → (bound : Option ℤ) × IsLeastCertain p bound → IsWithinBudget p limit ⊎ IsOverBudget p limit
-budget_decided p limit (bound, least) = by (cases_lt limit (node_count p bound))
+pub budget_decided : (p : Problem) (limit : ℕ) (count : Option ℤ → ℕ) → (bound : Option ℤ) × IsLeastCertain p bound
+    → ((bound : Option ℤ) × IsLeastCertain p bound × (count bound ≤ limit)) ⊎ ((bound : Option ℤ) × IsLeastCertain p bound × (limit < count bound))
+budget_decided p limit count (bound, least) = by (cases_lt limit (count bound))
   where
-    by : (limit < node_count p bound) ⊎ (node_count p bound ≤ limit) → IsWithinBudget p limit ⊎ IsOverBudget p limit
+    by : (limit < count bound) ⊎ (count bound ≤ limit)
+        → ((bound : Option ℤ) × IsLeastCertain p bound × (count bound ≤ limit)) ⊎ ((bound : Option ℤ) × IsLeastCertain p bound × (limit < count bound))
     by (inl many) = inr (bound, least, many)
     by (inr few) = inl (bound, least, few)
 

@@ -12,9 +12,11 @@ use Rattle.charge_model.specs.Tree.{is_open, is_node, node_count}
 use Rattle.charge_model.proofs.OneSite.{one_site, some_table, one_entry, one_site_list, one_site_bound}
 use Rattle.candidate_marks.specs.declared.candidate.Candidate.{Candidate}
 use Rattle.candidate_marks.specs.Candidates.{IsWeighed, ReachesBound, LiesAbove}
-use Rattle.prune_certificate.specs.declared.ground_list.Solved.{Solved}
+use Rattle.ground_entries.specs.declared.ground_list.Solved.{Solved}
 use Rattle.ground_state.specs.Answer.{IsListedWithin, IsOverBudget, IsSolution}
+use Rattle.ground_state.specs.Window.{window_end, IsWindowSolution}
 use Rattle.ground_state.specs.Kept.{AreKept}
+use Rattle.window_laws.proofs.StandardFacts.{one_site_window}
 
 pub two_nodes : node_count one_site (Some (pos 0)) ≡ 2
 unfolding node_count is_node is_open low pair_low site_low least_known greatest_known can_be greatest_potential greatest_fixed may_be_positive least_potential least_fixed class_of near_class_of
@@ -35,6 +37,14 @@ one_solution = record { list = one_entry; bound = Some (pos 0); nodes = 2 }
 
 solved_within : IsSolution one_site 2 one_solution
 solved_within = record { list = one_site_list; bound = one_site_bound; nodes = sym two_nodes; within = omega arith }
+
+-- within a window of 5 it is the same list, and the tree has no more nodes
+two_nodes_in_window : node_count one_site (window_end (Some (pos 0)) (pos 5)) ≡ 2
+unfolding node_count is_node is_open low pair_low site_low least_known greatest_known can_be greatest_potential greatest_fixed may_be_positive least_potential least_fixed class_of near_class_of
+two_nodes_in_window = refl
+
+pub window_solved : IsWindowSolution one_site (pos 5) 2 one_solution
+window_solved = record { list = one_site_window (pos 5) (omega (arith, ints)); bound = one_site_bound; nodes = sym two_nodes_in_window; within = omega arith }
 
 -- the one leaf of the tree is kept, with its energy of 0
 pub no_energy : (t : Table) (c : List Charge) → energy one_site t c ≡ pos 0

@@ -1,14 +1,16 @@
 //! That no problem and limit have two answers.
-ghost use Rattle.std.specs.Prelude.{◌≡◌, ◌≤◌, ◌⊎◌, ℕ, List, length};
+ghost use Rattle.std.specs.Prelude.{◌≡◌, ◌≤◌, ◌⊎◌, ℕ, ℤ, List, length};
 ghost use Rattle.charge_model.specs.Problem.{Problem, IsProblem};
 ghost use Rattle.charge_model.specs.GroundList.{Entry};
-ghost use Rattle.prune_certificate.specs.declared.ground_list.Solved.{Solved};
+ghost use Rattle.ground_entries.specs.declared.ground_list.Solved.{Solved};
 ghost use Rattle.sidb_units.specs.declared.TheConstants.{MAX_ENTRIES};
 ghost use Rattle.ground_state.specs.Answer.{IsListedWithin, IsTooLongWithin, IsWithinBudget, IsOverBudget, IsSolution};
+ghost use Rattle.ground_state.specs.Window.{IsWindowSolution, IsWindowTooLongWithin, IsWindowWithinBudget, IsWindowOverBudget};
 
 use branch_search::laws::least_certain_energies_exist;
 use ground_list_laws::laws::{one_ground_list, one_marked_ground_list};
 use prefix_laws::laws::one_least_certain;
+use window_laws::laws::{one_marked_window_list, one_window_list};
 
 /// Within the budget a problem has at most one ground list with its marks, and none where its
 /// ground list is too long; and the budget suffices or does not, and not both.
@@ -25,6 +27,26 @@ pub fn one_answer()
     least_certain_energies_exist();
     one_ground_list();
     one_marked_ground_list();
+    one_least_certain();
+}
+
+/// Within a window and a budget a problem has at most one list with its marks, and none where its
+/// window list is too long; and the budget suffices or does not, and not both.
+pub fn one_window_answer()
+    ensures list { (p : Problem) (window : ℤ) (limit : ℕ) (s r : Solved)
+        → IsWindowSolution p window limit s → IsWindowSolution p window limit r
+        → s.list ≡ r.list }
+    ensures length { (p : Problem) (window : ℤ) (limit : ℕ) (s : Solved)
+        → IsWindowSolution p window limit s → length s.list ≤ MAX_ENTRIES
+        → IsWindowTooLongWithin p window limit → ⊥ }
+    ensures budget { (p : Problem) (window : ℤ) (limit : ℕ)
+        → IsWindowWithinBudget p window limit → IsWindowOverBudget p window limit → ⊥ }
+    ensures decided { (p : Problem) (window : ℤ) (limit : ℕ) → IsProblem p
+        → IsWindowWithinBudget p window limit ⊎ IsWindowOverBudget p window limit }
+{
+    least_certain_energies_exist();
+    one_window_list();
+    one_marked_window_list();
     one_least_certain();
 }
 

@@ -2,8 +2,6 @@
 #![tactic(auto)]
 
 mod rule;
-#[cfg(test)]
-mod tests;
 mod verdict;
 
 pub use rule::hop;

@@ -5,7 +5,5 @@
 mod hunt;
 pub mod laws;
 mod search;
-#[cfg(test)]
-mod tests;
 
 pub use search::certain_energy;

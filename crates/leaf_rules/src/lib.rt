@@ -7,8 +7,8 @@ mod demand;
 mod energies;
 pub mod laws;
 mod leaves;
-#[cfg(test)]
-mod tests;
 
+pub use bounds::{BoundVerdict, hop_verdict, tests_verdict};
+pub use demand::Demand;
 pub use energies::{greatest_energy, least_energy};
-pub use leaves::{is_certain, is_possible};
+pub use leaves::{hops_hold, is_certain, is_possible};

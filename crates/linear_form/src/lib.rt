@@ -7,8 +7,6 @@ mod form;
 mod forms;
 pub mod laws;
 mod sums;
-#[cfg(test)]
-mod tests;
 
 pub use extremes::{form_span, greatest, least};
 pub use form::{Form, minus};

@@ -3,8 +3,6 @@
 
 mod levels;
 mod problem;
-#[cfg(test)]
-mod tests;
 
 pub use charge_model::{Span, span_between};
 pub use levels::Levels;

@@ -4,8 +4,6 @@
 pub mod laws;
 mod lines;
 mod print;
-#[cfg(test)]
-mod tests;
 
 pub use print::print_table;
 pub use table_reading::{

@@ -10,8 +10,6 @@ mod calls;
 mod extremes;
 mod flags;
 pub mod laws;
-#[cfg(test)]
-mod tests;
 
 pub use amount::{Amount, added, negated};
 pub use bound::{cost, low, pairs_low};

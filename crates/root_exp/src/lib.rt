@@ -4,10 +4,8 @@
 mod exponential;
 pub mod laws;
 mod roots;
-#[cfg(test)]
-mod tests;
 
-pub use exponential::{Sums, exp_sums};
+pub use exponential::{Sums, exp_sums, lower_sum, upper_sum};
 pub use roots::root40;
 
 /// One, in the unit of an argument of the exponential.

@@ -6,8 +6,6 @@ mod layouts;
 mod params;
 mod potential;
 mod rounding;
-#[cfg(test)]
-mod tests;
 
 pub use fixed_enclosure::Span;
 pub use layouts::problem;

@@ -1,12 +1,13 @@
 ghost use Rattle.std.specs.Prelude.{◌≤◌};
 ghost use Rattle.sidb_units.specs.declared.TheConstants.{MAX_NODES};
+ghost use Rattle.window_model.specs.Windows.{IsWindow};
 
 use entry_lines::entry_line;
-use ground_state::{SolveAnswer, solve};
-use plain_search::plain_solve;
+use ground_state::{SolveAnswer, solve, solve_window};
+use plain_search::{plain_solve, plain_window};
 use potential_problem::Problem;
 use potential_table::read_table;
-use prune_certificate::GroundList;
+use ground_entries::GroundList;
 use sidb_io::NoGate;
 use sidb_units::{MAX_NODES, Memory};
 use std::alloc::Global;
@@ -137,5 +138,89 @@ fn limits_count_nodes(rt: HostRuntime) -> Result<(), Fail> {
     assert_eq!(rt; found.as_str(), "too long");
     let found = by_search(&rt, alloc, &zero, 9840)?;
     assert_eq!(rt; found.as_str(), "budget");
+    Ok(())
+}
+
+/// The entries of the plain program within a window.
+fn by_plain_within(alloc: Global, problem: &Problem, window: i64) -> Result<String, Fail>
+    requires { IsWindow window }
+{
+    match plain_window(alloc, problem, window)? {
+        Some(list) => lines_of(alloc, &list),
+        None => Ok(String::from_str(alloc, "too long")?),
+    }
+}
+
+/// The entries of the search within a window, or the name of its refusal.
+fn by_search_within<R: Threads + Sync>(
+    rt: &R,
+    alloc: Global,
+    problem: &Problem,
+    window: i64,
+) -> Result<String, Fail>
+    requires { IsWindow window }
+{
+    match solve_window(rt, alloc, problem, window, MAX_NODES, 1, &NoGate) {
+        SolveAnswer::List(solved) => lines_of(alloc, &solved.list),
+        SolveAnswer::Budget => Ok(String::from_str(alloc, "budget")?),
+        SolveAnswer::ListTooLong => Ok(String::from_str(alloc, "too long")?),
+        SolveAnswer::Memory => Err(Memory)?,
+    }
+}
+
+/// Whether both programs give one list within a window.
+fn are_same<R: Threads + Sync>(rt: &R, alloc: Global, text: &str, window: i64) -> Result<bool, Fail>
+    requires { IsWindow window }
+{
+    let problem = read_table(alloc, text.as_bytes())?;
+    let plain = by_plain_within(alloc, &problem, window)?;
+    let found = by_search_within(rt, alloc, &problem, window)?;
+    Ok(found.as_str() == plain.as_str())
+}
+
+#[test]
+fn both_give_one_window_list(rt: HostRuntime) -> Result<(), Fail> {
+    let alloc = rt.alloc();
+    for text in TABLES {
+        assert!(rt; are_same(&rt, alloc, text, 0)?, "{text}");
+        assert!(rt; are_same(&rt, alloc, text, 1)?, "{text}");
+        assert!(rt; are_same(&rt, alloc, text, 7)?, "{text}");
+        assert!(rt; are_same(&rt, alloc, text, 60)?, "{text}");
+        assert!(rt; are_same(&rt, alloc, text, 400)?, "{text}");
+        assert!(rt; are_same(&rt, alloc, text, 200_000_000_000)?, "{text}");
+        assert!(rt; are_same(&rt, alloc, text, 2_000_000_000_000)?, "{text}");
+    }
+    Ok(())
+}
+
+/// Four sites where two lists compete, whose energies are these two.
+fn pair_of(alloc: Global, first: &str, second: &str) -> Result<String, Fail> {
+    Ok(format!(in alloc;
+        "sidb-table 1\nsites 4\nbase 3\nmu -50 -1000\n\
+        class 100 100\nclass 12 12\nclass {first}\nclass {second}\n\
+        pair 0 1 0\npair 0 2 1\npair 0 3 2\npair 1 2 3\npair 1 3 1\npair 2 3 0\nend\n"
+    )?)
+}
+
+/// The one list is above the other by 1: it is an entry with a window of 1 and not with one of 0.
+/// Where each may be above the other by 1, a window of 1 makes both certain.
+#[test]
+fn windows_reach_their_end(rt: HostRuntime) -> Result<(), Fail> {
+    let alloc = rt.alloc();
+    let text = pair_of(alloc, "10 10", "11 11")?;
+    let problem = read_table(alloc, text.as_bytes())?;
+    let none = by_search_within(&rt, alloc, &problem, 0)?;
+    assert_eq!(rt; none.as_str(), "-00- certain\n");
+    let one = by_search_within(&rt, alloc, &problem, 1)?;
+    assert_eq!(rt; one.as_str(), "-00- certain\n0--0 certain\n");
+    let text = pair_of(alloc, "9 11", "10 10")?;
+    let problem = read_table(alloc, text.as_bytes())?;
+    let none = by_search_within(&rt, alloc, &problem, 0)?;
+    assert_eq!(rt;
+        none.as_str(),
+        "-00- unresolved rival 1 -1 1\n0--0 unresolved rival 0 -1 1\n"
+    );
+    let one = by_search_within(&rt, alloc, &problem, 1)?;
+    assert_eq!(rt; one.as_str(), "-00- certain\n0--0 certain\n");
     Ok(())
 }

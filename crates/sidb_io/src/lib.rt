@@ -28,5 +28,3 @@ pub use steady_sink::SteadySink;
 pub use steady_source::SteadySource;
 pub use write_whole::write_all;
 
-#[cfg(test)]
-mod tests;

@@ -4,8 +4,6 @@
 mod classes;
 pub mod laws;
 mod measuring;
-#[cfg(test)]
-mod tests;
 
 pub use classes::Classes;
 pub use measuring::classes_of;

@@ -10,8 +10,6 @@ pub mod laws;
 mod layout;
 mod making;
 mod site;
-#[cfg(test)]
-mod tests;
 
 pub use fault::LayoutFault;
 pub use geometry::{default_lattice, lattice_of, squared_distance, squared_distance_on};

@@ -42,5 +42,3 @@ pub const DEFAULT_WORKERS: u64 = 4;
 /// The most points of a grid, in each of its two directions.
 pub const MAX_GRID: usize = 64;
 
-#[cfg(test)]
-mod tests;

@@ -11,5 +11,3 @@ pub use ground_report::About;
 pub use report::ground_text;
 pub use sim_report_json::ground_json;
 
-#[cfg(test)]
-mod tests;

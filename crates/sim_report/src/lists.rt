@@ -2,7 +2,7 @@
 ghost use Rattle.std.specs.Prelude.{◌≡◌, ◌<◌, ◌∷◌, codes, length, map, slice_get, zip, string_bytes, IfOk, Some};
 ghost use Rattle.std.specs.List.{join_with_byte};
 ghost use Rattle.text_rows.specs.Rows.{text_of};
-ghost use Rattle.prune_certificate.specs.Seen.{seen};
+ghost use Rattle.ground_entries.specs.Seen.{seen};
 ghost use Rattle.entry_lines.specs.EntryLines.{entry_words, span_words};
 ghost use Rattle.ground_report.specs.Subject.{AreOf};
 ghost use Rattle.sim_report.specs.GroundText.{AreEntryLines, energy_row};
@@ -12,7 +12,7 @@ use charge_model::Span;
 use entry_lines::entry_line;
 use ground_report::energy_spans;
 use potential_problem::Problem;
-use prune_certificate::{Entry, GroundList};
+use ground_entries::{Entry, GroundList};
 use sidb_units::Memory;
 use std::alloc::Global;
 

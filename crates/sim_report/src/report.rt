@@ -7,7 +7,7 @@ use crate::layout::layout_lines;
 use crate::lists::list_lines;
 use ground_report::About;
 use potential_problem::Problem;
-use prune_certificate::GroundList;
+use ground_entries::GroundList;
 use sidb_units::Memory;
 use std::alloc::Global;
 

@@ -1,7 +1,7 @@
 // Entries as JSON.
 ghost use Rattle.std.specs.Prelude.{◌≡◌, ◌<◌, length, map, slice_get, zip, IfOk, None, Some};
 ghost use Rattle.serde_json.specs.View.{view};
-ghost use Rattle.prune_certificate.specs.Seen.{seen};
+ghost use Rattle.ground_entries.specs.Seen.{seen};
 ghost use Rattle.ground_report.specs.Subject.{AreOf};
 ghost use Rattle.sim_report_json.specs.Parts.{entry_data};
 ghost use Rattle.sim_report_json.specs.GroundJson.{AreEntryData, entry_with_energy};
@@ -12,7 +12,7 @@ use charge_model::Span;
 use charge_state::print_charges;
 use ground_report::energy_spans;
 use potential_problem::Problem;
-use prune_certificate::{Entry, GroundList};
+use ground_entries::{Entry, GroundList};
 use serde_json::{Map, Value, put};
 use sidb_units::Memory;
 use std::alloc::Global;

@@ -8,7 +8,7 @@ use crate::members::put_optional;
 use crate::places::{fixed_value, lattice_value, sites_value};
 use ground_report::About;
 use potential_problem::Problem;
-use prune_certificate::GroundList;
+use ground_entries::GroundList;
 use serde_json::{Map, Value, put};
 use sidb_units::Memory;
 use std::alloc::Global;

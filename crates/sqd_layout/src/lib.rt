@@ -12,5 +12,3 @@ pub use found::Found;
 pub use sites::read_sites;
 pub use sqd::read_sqd;
 
-#[cfg(test)]
-mod tests;

@@ -13,5 +13,3 @@ pub use kind::Kind;
 pub use tag::{end_name, tag_name};
 pub use tag_value::attribute;
 
-#[cfg(test)]
-mod tests;

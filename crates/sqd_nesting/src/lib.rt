@@ -13,5 +13,3 @@ pub use fault::MarkFault;
 pub use read::Found;
 pub use text_marks::read_marks;
 
-#[cfg(test)]
-mod tests;

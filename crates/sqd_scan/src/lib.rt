@@ -7,5 +7,3 @@ mod stage;
 
 pub use mark_scan::{ScanFault, Whole, scan};
 
-#[cfg(test)]
-mod tests;

@@ -2,7 +2,7 @@ use Rattle.std.proofs.Common.{◌∙◌, map, arith}
 use Rattle.std.proofs.lemmas.List.{length-map}
 use Rattle.std.specs.Prelude.{zip}
 use Rattle.std.proofs.lemmas.Slice.Zip.{length-zip}
-use Rattle.prune_certificate.specs.Seen.{seen}
+use Rattle.ground_entries.specs.Seen.{seen}
 use Rattle.sim_report.specs.GroundText.{energy_row}
 use Rattle.sim_report.proofs.RowLemmas.{one_more_row, all_rows, row_at}
 use Rattle.sim_report.proofs.Numbered.{zipped_at}

@@ -1,6 +1,6 @@
 use Rattle.std.proofs.Common.{◌∙◌, map}
 use Rattle.entry_lines.specs.EntryLines.{entry_words}
-use Rattle.prune_certificate.specs.Seen.{seen}
+use Rattle.ground_entries.specs.Seen.{seen}
 use Rattle.sim_report.proofs.RowLemmas.{one_more_row, row_at}
 use Rattle.sim_report.proofs.lists.plain_lines.Goals as goal
 

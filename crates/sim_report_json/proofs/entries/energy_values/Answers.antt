@@ -2,7 +2,7 @@ use Rattle.std.proofs.Common.{map, arith}
 use Rattle.std.specs.Prelude.{zip}
 use Rattle.std.proofs.lemmas.List.{length-map}
 use Rattle.std.proofs.lemmas.Slice.Zip.{length-zip}
-use Rattle.prune_certificate.specs.Seen.{seen}
+use Rattle.ground_entries.specs.Seen.{seen}
 use Rattle.sim_report_json.specs.GroundJson.{entry_with_energy}
 use Rattle.sim_report_json.proofs.Items.{one_more_item, all_items, zipped_at}
 use Rattle.sim_report_json.proofs.entries.energy_values.Goals as goal

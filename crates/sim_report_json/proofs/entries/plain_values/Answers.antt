@@ -1,5 +1,5 @@
 use Rattle.std.proofs.Common.{None}
-use Rattle.prune_certificate.specs.Seen.{seen}
+use Rattle.ground_entries.specs.Seen.{seen}
 use Rattle.sim_report_json.specs.Parts.{entry_data}
 use Rattle.sim_report_json.proofs.Items.{one_more_item}
 use Rattle.sim_report_json.proofs.entries.plain_values.Goals as goal

@@ -1,0 +1,50 @@
+-- what solving a problem answers where all within an energy of the ground is asked for
+use Rattle.std.specs.Prelude.{◌≡◌, ℕ, ◌<◌, ◌≤◌, ℤ, ◌+ℤ◌, Option, Some, None}
+use Rattle.charge_model.specs.Problem.{Problem}
+use Rattle.charge_model.specs.Tree.{IsLeastCertain, node_count}
+use Rattle.ground_entries.specs.declared.ground_list.Solved.{Solved}
+use Rattle.window_model.specs.Windows.{IsMarkedWindowList}
+pub use Rattle.candidate_marks.specs.Found.{IsWindowTooLong}
+use Rattle.ground_state.specs.declared.reach.Reach.{Reach}
+use Rattle.ground_state.specs.declared.solving.SolveAnswer.{SolveAnswer}
+use Rattle.ground_state.specs.declared.solving.SolveAnswer.TheVariants.{List as Listed, Budget, ListTooLong, Memory}
+
+-- where the window above an energy ends, where there is an energy
+abbrev pub window_end : Option ℤ → ℤ → Option ℤ
+window_end None window = None
+window_end (Some bound) window = Some (bound +ℤ window)
+
+-- from the least certain energy to the end of the window above it
+pub record IsReach (p : Problem) (r : Reach) : Type 0 where
+  pub bound : IsLeastCertain p r.bound
+  pub end : r.end ≡ window_end r.bound r.window.width
+
+-- the search tree under the least certain energy and the window has at most so many nodes
+abbrev pub IsWindowWithinBudget : Problem → ℤ → ℕ → Type 0
+IsWindowWithinBudget p window limit =
+    (bound : Option ℤ) × IsLeastCertain p bound × (node_count p (window_end bound window) ≤ limit)
+
+-- it has more
+abbrev pub IsWindowOverBudget : Problem → ℤ → ℕ → Type 0
+IsWindowOverBudget p window limit =
+    (bound : Option ℤ) × IsLeastCertain p bound × (limit < node_count p (window_end bound window))
+
+-- the budget suffices, and the window list has more than 4,096 entries
+pub record IsWindowTooLongWithin (p : Problem) (window : ℤ) (limit : ℕ) : Type 0 where
+  pub budget : IsWindowWithinBudget p window limit
+  pub many : IsWindowTooLong p window
+
+-- the window list with its marks, the least certain energy,
+-- and how many nodes the search tree under it and the window has
+pub record IsWindowSolution (p : Problem) (window : ℤ) (limit : ℕ) (s : Solved) : Type 0 where
+  pub list : IsMarkedWindowList p window s.list
+  pub bound : IsLeastCertain p s.bound
+  pub nodes : s.nodes ≡ node_count p (window_end s.bound window)
+  pub within : s.nodes ≤ limit
+
+-- what each answer says
+abbrev pub IsWindowSolved : Problem → ℤ → ℕ → SolveAnswer → Type 0
+IsWindowSolved p window limit (Listed s) = IsWindowSolution p window limit s
+IsWindowSolved p window limit Budget = IsWindowOverBudget p window limit
+IsWindowSolved p window limit ListTooLong = IsWindowTooLongWithin p window limit
+IsWindowSolved p window limit Memory = Unit {0}

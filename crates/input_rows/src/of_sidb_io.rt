@@ -1,0 +1,84 @@
+use sidb_io::{
+    Event, Failed, Gate, MemSink, MemSource, NoGate, ReadAllFault, RealSink, RealSource, Sink,
+    Source, SteadySink, SteadySource, read_all, write_all,
+};
+use std::test::Fail;
+use std::{fs, io};
+
+// Six bytes by two are three reads that give and one that finds the end.
+#[test]
+fn each_read_is_refused_in_turn(rt: HostRuntime) -> Result<(), Fail> {
+    let table = [
+        (0, 6, Some(ReadAllFault::ReadFault)),
+        (1, 6, Some(ReadAllFault::ReadFault)),
+        (2, 6, Some(ReadAllFault::ReadFault)),
+        (3, 6, Some(ReadAllFault::ReadFault)),
+        (4, 6, None),
+        (4, 5, Some(ReadAllFault::TooLong)),
+    ];
+    for (refused, limit, fault) in table {
+        let bytes = b"abcdef".as_slice().to_vec(rt.alloc())?;
+        let fails = [refused].as_slice().to_vec(rt.alloc())?;
+        let mut source = MemSource::new(bytes, 2, fails);
+        match read_all(rt.alloc(), &mut source, limit) {
+            Ok(all) => {
+                assert_eq!(rt; fault, None);
+                assert_eq!(rt; all.as_slice(), b"abcdef".as_slice());
+            }
+            Err(other) => assert_eq!(rt; fault, Some(other)),
+        }
+    }
+    let mut steady = SteadySource::new(b"abc".as_slice().to_vec(rt.alloc())?);
+    let all = read_all(rt.alloc(), &mut steady, 3);
+    assert!(rt; all.is_ok_and(|all| all.as_slice() == b"abc".as_slice()));
+    Ok(())
+}
+
+// Six bytes by two are three writes; a room for three bytes takes one whole and a half.
+#[test]
+fn each_write_is_refused_in_turn(rt: HostRuntime) -> Result<(), Fail> {
+    let table: [(u64, usize, &[u8]); 5] = [
+        (0, 6, b""),
+        (1, 6, b"ab"),
+        (2, 6, b"abcd"),
+        (3, 6, b"abcdef"),
+        (3, 3, b"abc"),
+    ];
+    for (refused, room, want) in table {
+        let room = Vec::with_capacity(rt.alloc(), room)?;
+        let mut sink = MemSink::new(room, 2, [refused].as_slice().to_vec(rt.alloc())?);
+        let whole = write_all(&mut sink, b"abcdef".as_slice()).is_ok();
+        assert_eq!(rt; whole, want.len() == 6);
+        assert_eq!(rt; sink.written(), want);
+    }
+    assert_eq!(rt; SteadySink::new().write(b"abc".as_slice()), Ok(3));
+    NoGate.at(0, Event::Claim);
+    Ok(())
+}
+
+// Through a pipe; a directory is not read.
+#[test]
+fn reads_the_real(rt: HostRuntime) -> Result<(), Fail> {
+    let (reader, mut writer) = io::pipe(&rt)?;
+    io::Write::write_all(&mut writer, b"abc".as_slice())?;
+    drop(writer);
+    let all = read_all(rt.alloc(), &mut RealSource::new(reader), 3);
+    assert!(rt; all.is_ok_and(|all| all.as_slice() == b"abc".as_slice()));
+    let mut folder = RealSource::new(fs::open(&rt, "/")?);
+    assert_eq!(rt; folder.read(&mut [0; 4]), Err(Failed));
+    Ok(())
+}
+
+// Through a pipe; what was opened for reading is not written.
+#[test]
+fn writes_the_real(rt: HostRuntime) -> Result<(), Fail> {
+    let (mut reader, writer) = io::pipe(&rt)?;
+    assert!(rt; write_all(&mut RealSink::new(writer), b"abc".as_slice()).is_ok());
+    let mut block = [0; 4];
+    let given = io::Read::read(&mut reader, &mut block)?;
+    assert_eq!(rt; given, 3);
+    assert_eq!(rt; block.as_slice(), b"abc\0".as_slice());
+    let mut closed = RealSink::new(fs::open(&rt, "/dev/null")?);
+    assert_eq!(rt; closed.write(b"abc".as_slice()), Err(Failed));
+    Ok(())
+}

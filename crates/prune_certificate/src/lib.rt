@@ -1,9 +1,0 @@
-//! Entries with their marks, and the ground list as it is handed on.
-#![tactic(auto)]
-
-mod ground_list;
-#[cfg(test)]
-mod tests;
-
-pub use charge_model::{Deciding, Mark, Span, Test, span_between};
-pub use ground_list::{Entry, GroundList, Solved, list_of};
