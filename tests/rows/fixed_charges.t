@@ -58,16 +58,7 @@ In base 2 it cannot be, and a neutral site needs at least -0.91 V there too: no 
   entries 0
   end
 
-In JSON they stand under `fixed`.
-
-  $ sidb --json << END
-  > 0 0 0
-  > fix 1 0 0 -1
-  > END
-  {"count":1,"entries":[{"charges":"0","mark":"certain"}],"fixed":[[1,0,0,-1]],"kind":"sidb-ground","sites":[[0,0,0]],"skipped":0,"version":2}
-
-A fixed charge at the place of a site is refused, whichever comes first; so are a charge of 0, one beyond
-3, and a ninth one.
+A fixed charge at the place of a site is refused; so are a charge of 0, one beyond 3, and a ninth one.
 
   $ printf '%s\n' '0 0 0' 'fix 0 0 0 1' | sidb
   fault input duplicate 1 2

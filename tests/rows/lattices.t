@@ -63,11 +63,8 @@ The lattice of silicon, named so, is no other lattice: the report has version 1.
   - certain
   end
 
-A second such line is refused.
+A second such line is refused, also where the first one is out of range.
 
-  $ sidb << END
-  > lattice 384 0 0 768 0 225
-  > lattice 384 0 0 768 0 225
-  > END
-  fault input bad-line 2
+  $ printf '%s\n' 'lattice 801 0 0 768 0 225' '' 'lattice 384 0 0 768 0 225' | sidb
+  fault input bad-line 3
   [3]

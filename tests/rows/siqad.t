@@ -87,11 +87,51 @@ A dot counts at any depth, and values may stand between single quotes.
   - certain
   end
 
-Faults of the marks
--------------------
+Spellings: a comment around a dot is none, blanks may stand around `=`, numbers may have zeros in front, and of
+two attributes of one name the first counts.
 
-Bytes are counted from 0. A text that ends inside a mark, or with elements open, is told at the mark, or at
-the innermost of them, however many there are.
+  $ sidb --form sqd << END
+  > <siqad><dbdot><a><!--<dbdot>--><latcoord n = '-2' m='03' l='1' n='x'>1</latcoord></a></dbdot></siqad>
+  > END
+  sidb-ground 1
+  sites 1
+  site 0 -2 3 1
+  skipped 0
+  entries 1
+  - certain
+  end
+
+Skipped are the children of a design layer that are no dot and hold none: here `x` and `y`, and not `w`.
+
+  $ sidb --form sqd << END
+  > <siqad><design><layer><x/><y><z/></y><w><dbdot><latcoord l='0' m='0' n='0'/></dbdot></w></layer></design></siqad>
+  > END
+  sidb-ground 1
+  sites 1
+  site 0 0 0 0
+  skipped 2
+  entries 1
+  - certain
+  end
+
+Layers that are no child of a design, and designs that are no child of the root, are none.
+
+  $ sidb --form sqd << END
+  > <siqad><layer><x/></layer><a><design><layer><x/></layer></design></a>
+  > <design><a><layer><x/></layer></a></design></siqad>
+  > END
+  sidb-ground 1
+  sites 0
+  skipped 0
+  entries 1
+  . certain
+  end
+
+Faults
+------
+
+Those of the marks come first (marks.t). A text that ends inside a mark, or with elements open, is told at the
+mark, or at the innermost of them, however many there are.
 
   $ printf '<siqad><design><layer type="DB"><dbd' | sidb --form sqd
   fault input not-closed 32
@@ -101,39 +141,9 @@ the innermost of them, however many there are.
   fault input not-closed 300004
   [3]
 
-An end mark has the name of the innermost open element.
-
   $ printf '<siqad></design>' | sidb --form sqd
   fault input wrong-close 7
   [3]
-
-Two kinds of marks have names of their own, since they are refused wherever they stand.
-
-  $ printf '<!DOCTYPE siqad><siqad/>' | sidb --form sqd
-  fault input doctype 0
-  [3]
-
-  $ printf '<siqad><![CDATA[x]]></siqad>' | sidb --form sqd
-  fault input cdata 7
-  [3]
-
-All else that the profile does not allow is told at its first byte: a value without quotes, a mark that is no
-comment, a second root.
-
-  $ printf '<siqad a=1/>' | sidb --form sqd
-  fault input bad-mark 9
-  [3]
-
-  $ printf '<!x' | sidb --form sqd
-  fault input bad-mark 2
-  [3]
-
-  $ printf '<siqad/><siqad/>' | sidb --form sqd
-  fault input bad-mark 8
-  [3]
-
-Faults of the dots
-------------------
 
 An empty text has no root, and none that is named `siqad`.
 
@@ -141,10 +151,45 @@ An empty text has no root, and none that is named `siqad`.
   fault input not-siqad
   [3]
 
-A dot without a place:
+A dot without a place is told at its first byte; so is one with two places, one with a dot inside, and one with
+a number that is missing, or is not one to nine digits with an optional minus.
 
   $ printf '<siqad><design><layer type="DB"><dbdot/></layer></design></siqad>' | sidb --form sqd
   fault input bad-site 32
+  [3]
+
+  $ place="<latcoord n='0' m='0' l='0'/>"
+  $ for inside in "$place$place" "$place<a><dbdot/></a>" "<latcoord n='0' m='0'/>" \
+  >   "<latcoord n='0' m='0' l='+1'/>" "<latcoord n='1234567890' m='0' l='0'/>"; do
+  >   echo "<siqad><dbdot>$inside</dbdot></siqad>" | sidb --form sqd
+  > done
+  fault input bad-site 7
+  fault input bad-site 7
+  fault input bad-site 7
+  fault input bad-site 7
+  fault input bad-site 7
+  [3]
+
+Broken dots come before those that are out of range, these before too many, and these before two at one place.
+
+  $ echo "<siqad><dbdot><latcoord n='9999' m='0' l='0'/></dbdot><dbdot/></siqad>" | sidb --form sqd
+  fault input bad-site 54
+  [3]
+
+  $ echo "<siqad><dbdot><latcoord n='5001' m='0' l='0'/></dbdot></siqad>" | sidb --form sqd
+  fault input out-of-range 7
+  [3]
+
+  $ printf "\357\273\277<siqad><dbdot><latcoord n='0' m='0' l='2'/></dbdot></siqad>" | sidb --form sqd
+  fault input out-of-range 10
+  [3]
+
+  $ (echo '<siqad>'; for n in $(seq 65); do echo "<dbdot>$place</dbdot>"; done; echo '</siqad>') | sidb --form sqd
+  fault input too-many
+  [3]
+
+  $ echo "<siqad><dbdot>$place</dbdot><dbdot><latcoord n='-0' m='00' l='0'/></dbdot></siqad>" | sidb --form sqd
+  fault input duplicate 7 51
   [3]
 
 The limit of bytes comes before all else.

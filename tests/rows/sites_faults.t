@@ -9,6 +9,25 @@ A line that is neither a site nor a fixed charge nor a lattice:
   fault input bad-line 1
   [3]
 
+A number has no plus and at most nine digits, one carriage return before the end of a line is left out, and no
+comment stands behind numbers.
+
+  $ printf '0 0 0\n\n+1 0 0\n' | sidb
+  fault input bad-line 3
+  [3]
+
+  $ echo 0 0 1234567890 | sidb
+  fault input bad-line 1
+  [3]
+
+  $ printf '0 0 0\r\r\n' | sidb
+  fault input bad-line 1
+  [3]
+
+  $ printf '%s\n' '5001 0 0' '0 0 0 #' | sidb
+  fault input bad-line 2
+  [3]
+
 Comments count as lines.
 
   $ printf '# sites\n0 0 0\nhello' | sidb
@@ -36,9 +55,18 @@ A column goes up to 5000, and no further.
   fault input out-of-range 1
   [3]
 
-Of two equal places both lines are told.
+Of two equal places both lines are told, the first of the place and the first that repeats it, be they sites
+or fixed charges.
 
   $ printf '%s\n' '0 0 0' '0 0 0' | sidb
+  fault input duplicate 1 2
+  [3]
+
+  $ printf '%s\n' '#' '0 0 0' 'fix 0 0 0 1' | sidb
+  fault input duplicate 2 3
+  [3]
+
+  $ printf '%s\n' 'fix 0 0 0 1' '0 0 0' '0 0 0' | sidb
   fault input duplicate 1 2
   [3]
 

@@ -34,7 +34,11 @@ The last line needs its end, and nothing follows it.
   fault input table line 5 form
   [3]
 
-  $ printf '%s\n' 'sidb-table 1' 'sites 0' 'base 3' 'mu -1 -2' 'end' 'end' | sidb --form table
+  $ printf 'sidb-table 1\nsites 0\nbase 3\nmu -1 -2\nend\n\n' | sidb --form table
+  fault input table line 6 form
+  [3]
+
+  $ printf 'sidb-table 1\nsites 0\nbase 3\nmu -1 -2\nend\n ' | sidb --form table
   fault input table line 6 form
   [3]
 
@@ -60,6 +64,12 @@ A span whose ends are the wrong way round, told by the number of its class:
   > end
   > END
   fault input table span 0
+  [3]
+
+A class too many comes before a bad span.
+
+  $ printf '%s\n' 'sidb-table 1' 'sites 1' 'base 3' 'mu -2 -5' 'class 3 1' | sidb --form table
+  fault input table line 5 range
   [3]
 
 A pair without its line, and a pair with two:
