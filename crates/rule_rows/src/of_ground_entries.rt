@@ -1,5 +1,5 @@
-use ground_entries::{Deciding, Entry, Mark, list_of, span_between};
 use charge_state::{Charge, Charges};
+use ground_entries::{Deciding, Entry, Mark, list_of, span_between};
 use std::test::Fail;
 
 /// Two entries, read from a copy of their list.

@@ -7,7 +7,10 @@ use std::test::Fail;
 fn least_energies_of_few_sites(rt: HostRuntime) -> Result<(), Fail> {
     let alloc = rt.alloc();
     let alternating = neighbours(alloc, 3)?;
-    assert_eq!(rt; certain_energy(alloc, &alternating)?, Some(-953_107_708_684));
+    assert_eq!(rt;
+        certain_energy(alloc, &alternating)?,
+        Some(-953_107_708_684)
+    );
     let middle_alone = neighbours(alloc, 2)?;
     assert_eq!(rt; certain_energy(alloc, &middle_alone)?, Some(0));
     let left = apart(alloc)?;

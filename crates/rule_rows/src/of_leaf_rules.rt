@@ -1,8 +1,8 @@
 ghost use Rattle.std.specs.Prelude.{◌≡◌, IfOk, [], ◌∷◌};
 
 use crate::problems::{apart, neighbours};
-use leaf_rules::{greatest_energy, is_certain, is_possible, least_energy};
 use charge_model::{Charge, span_between};
+use leaf_rules::{greatest_energy, is_certain, is_possible, least_energy};
 use potential_problem::{Levels, Problem, problem_of};
 use prefix_bound::Track;
 use sidb_units::Memory;
@@ -88,7 +88,13 @@ fn tables_decide(rt: HostRuntime) -> Result<(), Fail> {
     let problem = apart(alloc)?;
     let outer = verdicts(alloc, &problem, Charge::Neg, Charge::Neutral, Charge::Neg)?;
     assert_eq!(rt; outer, (true, false));
-    let none = verdicts(alloc, &problem, Charge::Neutral, Charge::Neutral, Charge::Neg)?;
+    let none = verdicts(
+        alloc,
+        &problem,
+        Charge::Neutral,
+        Charge::Neutral,
+        Charge::Neg,
+    )?;
     assert_eq!(rt; none, (false, false));
     Ok(())
 }

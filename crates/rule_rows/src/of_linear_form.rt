@@ -2,8 +2,8 @@ ghost use Rattle.std.specs.Prelude.{◌≡◌, ◌≤◌, IfOk, length};
 ghost use Rattle.charge_model.specs.Problem.{fixed_count};
 
 use crate::problems::{apart, pair, triple};
-use linear_form::{energy_form, form_span, greatest, hop_form, least, minus, site_form, test_form};
 use charge_model::{Charge, Test, span_between};
+use linear_form::{energy_form, form_span, greatest, hop_form, least, minus, site_form, test_form};
 use potential_problem::{Levels, Problem, problem_with};
 use sidb_units::Memory;
 use std::alloc::Global;

@@ -1,6 +1,6 @@
 use crate::problems::{pair, wide_pair};
-use population_rule::{PopulationVerdict, population};
 use charge_model::{Charge, Test, span_between};
+use population_rule::{PopulationVerdict, population};
 use std::test::Fail;
 
 #[test]

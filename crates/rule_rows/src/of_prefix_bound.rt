@@ -1,9 +1,9 @@
 ghost use Rattle.std.specs.Prelude.{◌≡◌, ◌≤◌, IfOk, length};
 
 use crate::problems::neighbours;
-use prefix_bound::{Track, can, closed_at, low};
 use charge_state::{Charge, Charges, first_charges, next_charges};
 use potential_problem::Problem;
+use prefix_bound::{Track, can, closed_at, low};
 use sidb_units::Memory;
 use std::alloc::Global;
 use std::test::Fail;

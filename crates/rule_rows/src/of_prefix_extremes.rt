@@ -1,6 +1,6 @@
 use crate::problems::neighbours;
-use prefix_extremes::{can, closed_at, low, may_be_positive};
 use charge_state::{Charge, Charges, read_charges};
+use prefix_extremes::{can, closed_at, low, may_be_positive};
 use std::test::Fail;
 
 /// Three neighbours along a row. Only the site in the middle may be positive; two negative
