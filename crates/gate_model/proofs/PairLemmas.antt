@@ -1,13 +1,19 @@
 -- parts of texts, and the pairs that they are
-use Rattle.std.proofs.Common.{◌≡◌, ◌≢◌, ◌∙◌, sym, ap, refl, subst, ℕ, zero, suc, ◌+◌, ◌<◌, ◌≤◌, List, [], ◌∷◌, ◌++◌, Bool, Some, eqb, take, length, get_or, arith, map, Option, None, IfSome, Result, Ok, Err, IfOk}
+use Rattle.std.proofs.Common.{◌≡◌, ◌≢◌, ◌∙◌, sym, ap, refl, subst, ℕ, zero, suc, ◌+◌, ◌<◌, ◌≤◌, ℤ, pos, List, [], ◌∷◌, ◌++◌, Bool, Some, eqb, take, length, get_or, arith, map, Option, None, IfSome, Result, Ok, Err, IfOk}
 use Rattle.sidb_units.specs.declared.memory.Memory.{Memory}
 use Rattle.std.specs.Borrow.{Bor}
 use Rattle.std.specs.List.{AllZip, slice_split}
 use Rattle.std.proofs.lemmas.List.{take_more, take_all, get_or-map, length-map}
 use Rattle.std.proofs.lemmas.List.Splits.{length-slice_split}
 use Rattle.std.proofs.lemmas.Slice.Zip.{all_zipped_more, AllZip-long}
+use Rattle.sidb_units.specs.Decimal.{IsReadAs}
+use Rattle.gate_model.specs.declared.TheConstants.{MAX_PAIR_PLACE}
 use Rattle.gate_model.specs.declared.pairs.PairOf.{PairOf}
 use Rattle.gate_model.specs.Pairs.{ArePairs, IsPair, IsPlace, fields, parts}
+
+-- a text is read as one number
+abbrev pub IsReadOnce : Type 0
+IsReadOnce = (text : List ℕ) (places : ℕ) (least greatest v w : ℤ) → IsReadAs text places least greatest v → IsReadAs text places least greatest w → v ≡ w
 
 -- a text has one part or more
 pub some_part : (p : ℕ → Bool) (xs : List ℕ) → 1 ≤ length (slice_split p xs)
@@ -75,3 +81,26 @@ whole_text text xs most same few (Ok (Some pairs)) zip = record {
   each = subst (λ l. AllZip IsPair l pairs) same zip;
   few = omega (arith, AllZip-long IsPair (map (λ w. w.now) xs) pairs zip, parts_long xs, few);
 }
+
+-- a text is one list of pairs
+abbrev pair_of : ℕ → ℕ → PairOf
+pair_of a b = record { a = a; b = b }
+
+same_place : (m n : ℕ) → pos m ≡ pos n → m ≡ n
+same_place m n e = cc
+
+one_pair : IsReadOnce → (part : List ℕ) (x y : PairOf) → IsPair part x → IsPair part y → x ≡ y
+one_pair once part x y e f =
+    let first : f.a_word ≡ e.a_word = cc (e.words, f.words) in
+    let second : f.b_word ≡ e.b_word = cc (e.words, f.words) in
+    let a : x.a ≡ y.a = same_place x.a y.a (once e.a_word 0 (pos 0) MAX_PAIR_PLACE (pos x.a) (pos y.a) e.a (subst (λ w. IsPlace w y.a) first f.a)) in
+    let b : x.b ≡ y.b = same_place x.b y.b (once e.b_word 0 (pos 0) MAX_PAIR_PLACE (pos x.b) (pos y.b) e.b (subst (λ w. IsPlace w y.b) second f.b)) in
+    ap (λ n. pair_of n x.b) a ∙ ap (pair_of y.a) b
+
+pub same_pairs : IsReadOnce → (xs : List (List ℕ)) (a b : List PairOf) → AllZip IsPair xs a → AllZip IsPair xs b → a ≡ b
+same_pairs once [] [] [] e f = refl
+same_pairs once [] (x ∷ a) b e f = absurd e
+same_pairs once [] [] (y ∷ b) e f = absurd f
+same_pairs once (w ∷ xs) [] b e f = absurd e
+same_pairs once (w ∷ xs) (x ∷ a) [] e f = absurd f
+same_pairs once (w ∷ xs) (x ∷ a) (y ∷ b) e f = let head : x ≡ y = one_pair once w x y e.0 f.0 in let tail : a ≡ b = same_pairs once xs a b e.1 f.1 in cc
