@@ -1,5 +1,5 @@
 -- the rule of a round, which holds after each list of events
-use Rattle.std.specs.Prelude.{◌≡◌, ℕ, ◌+◌, ◌-◌, ◌<◌, ◌≤◌, Bool, true, cond, eqb, ltb, ◌⊎◌, List, [], ◌∷◌, ℤ, negsuc, ◌≤ℤ◌, ◌^◌, min}
+use Rattle.std.specs.Prelude.{◌≡◌, ℕ, ◌+◌, ◌-◌, ◌*◌, ◌<◌, ◌≤◌, Bool, true, cond, eqb, ltb, ◌⊎◌, List, [], ◌∷◌, ℤ, negsuc, ◌≤ℤ◌, ◌^◌, min}
 use Rattle.std.specs.List.{Contains}
 use mathlib.Core.Option.{some}
 use lib.ListN.{get_elem?}
@@ -30,11 +30,11 @@ times n (k ∷ ks) = one n k + times n ks
 abbrev pub shares_if : Bool → ℕ → ℕ
 shares_if b n = cond b n 0
 
--- the numbers of a round are in their ranges: at most 3^4 tasks, and the limits of the program
+-- the numbers of a round are in their ranges: at most 3^4 tasks, and up to twice the greatest limit
 pub record IsPlan (p : Plan) : Type 0 where
   pub threshold : InRange p.threshold
   pub some_limit : 1 ≤ p.limit
-  pub limit : p.limit ≤ MAX_NODES
+  pub limit : p.limit ≤ 2 * MAX_NODES
   pub tasks : p.tasks ≤ 81
   pub some_worker : 1 ≤ p.workers
   pub workers : p.workers ≤ MAX_WORKERS

@@ -8,8 +8,8 @@ use prefix_bound::{Track, low};
 use sidb_units::Memory;
 use std::alloc::Global;
 
-/// How often the thresholds are told apart.
-const PASSES: usize = 5;
+/// How often the thresholds are told apart at most; mostly once suffices.
+const PASSES: usize = 6;
 
 /// Counts the prefixes of the tree that begin with the prefix and one more charge.
 #[cycle(counts)]
@@ -64,46 +64,73 @@ struct Gap {
     over: i64,
 }
 
-/// The part of the gap in which the limit is passed, told by one pass over the thresholds up to
-/// `end`.
+/// What a pass tells: a threshold with a few more nodes than the limit, or none, and the part of
+/// the gap in which the limit is passed.
+#[derive(Clone, Copy)]
+struct Told {
+    passing: Option<i64>,
+    gap: Gap,
+}
+
+/// One pass over the thresholds of a gap up to `end`, which counts up to a quarter more nodes than
+/// the limit.
 fn narrower(
     alloc: Global,
     problem: &Problem,
     limit: u64,
     gap: Gap,
     end: i64,
-) -> Result<Gap, Memory> {
+) -> Result<Told, Memory> {
     let size = end.saturating_sub(gap.above).unsigned_abs();
     let mut track = Track::new(alloc, problem)?;
-    let mut window = Window::new(alloc, gap.above, size, limit)?;
+    let room = limit.saturating_add(limit / 4);
+    let mut window = Window::new(alloc, gap.above, size, room)?;
     count_prefix(problem, &mut track, gap.above, &mut window);
-    if window.is_whole() {
-        return Ok(Gap {
+    let passing = window.passing(limit);
+    let gap = if window.is_whole() {
+        Gap {
             above: end,
             over: gap.over,
-        });
-    }
-    Ok(Gap {
-        above: window.end(),
-        over: window.next_end(),
+        }
+    } else {
+        Gap {
+            above: window.end(),
+            over: window.next_end(),
+        }
+    };
+    Ok(Told { passing, gap })
+}
+
+/// A gap to begin with, and the threshold up to which a pass is made first.
+#[derive(Clone, Copy)]
+struct First {
+    gap: Gap,
+    end: i64,
+}
+
+/// Told by passes with smaller limits: the count of nodes grows mostly as fast from the one to the
+/// other as from there on.
+fn first_pass(
+    alloc: Global,
+    problem: &Problem,
+    limit: u64,
+    over: i64,
+) -> Result<First, Memory> {
+    let above = low(problem, &Charges::empty()).saturating_sub(1);
+    let few = narrower(alloc, problem, limit / 4096, Gap { above, over }, over)?;
+    let above = few.gap.above;
+    let some_more = narrower(alloc, problem, limit / 64, Gap { above, over }, over)?;
+    let step = some_more.gap.above.saturating_sub(above).saturating_mul(2);
+    let above = some_more.gap.above;
+    let end = above.saturating_add(step).min(over);
+    Ok(First {
+        gap: Gap { above, over },
+        end,
     })
 }
 
-/// A gap to begin with, told by passes with smaller limits: the count of nodes grows mostly as
-/// fast from the one to the other as from there on.
-fn first_gap(alloc: Global, problem: &Problem, limit: u64, over: i64) -> Result<Gap, Memory> {
-    let above = low(problem, &Charges::empty()).saturating_sub(1);
-    let few = narrower(alloc, problem, limit / 4096, Gap { above, over }, over)?;
-    let above = few.above;
-    let some_more = narrower(alloc, problem, limit / 64, Gap { above, over }, over)?;
-    let step = some_more.above.saturating_sub(few.above).saturating_mul(2);
-    let above = some_more.above;
-    let end = above.saturating_add(step).min(over);
-    narrower(alloc, problem, limit, Gap { above, over }, end)
-}
-
-/// About the greatest threshold, in 10^-12 V, below this one, under which the tree has no more
-/// nodes than the limit.
+/// A threshold, in 10^-12 V, below this one, under which the tree has a few more nodes than the
+/// limit; or, where the count passes the limit in one step, the threshold before that step.
 ///
 /// Nothing is promised of it: who asks makes a round there, and one at the next threshold.
 pub fn guessed_threshold(
@@ -112,12 +139,19 @@ pub fn guessed_threshold(
     limit: u64,
     over: i64,
 ) -> Result<i64, Memory> {
-    let mut gap = first_gap(alloc, problem, limit, over)?;
+    let first = first_pass(alloc, problem, limit, over)?;
+    let mut gap = first.gap;
+    let mut end = first.end;
     for _pass in 0..PASSES {
         if gap.over.saturating_sub(gap.above) <= 1 {
             return Ok(gap.above);
         }
-        gap = narrower(alloc, problem, limit, gap, gap.over)?;
+        let told = narrower(alloc, problem, limit, gap, end)?;
+        if let Some(threshold) = told.passing {
+            return Ok(threshold.min(over.saturating_sub(1)));
+        }
+        gap = told.gap;
+        end = gap.over;
     }
     Ok(gap.above)
 }
