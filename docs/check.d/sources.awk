@@ -2,6 +2,7 @@
 #
 #   name CRATE NAME                 a function, type, trait or module, public or not
 #   handed_on CRATE WORD            a word of a `pub use`
+#   implements CRATE TRAIT          a trait that the crate implements
 #   function CRATE KEY TRAIT_KEY    a public function
 #   clause CRATE NAME CLAUSE        a clause of a function, public or not
 #   public_clause CRATE KEY CLAUSE  a clause of a public function
@@ -66,6 +67,7 @@ function open_block(line) {
     sub(/^(pub )?(impl|trait)(<[^>]*>)? /, "", line)
     if (line ~ / for /) {
         block = first_word(line)
+        print "implements", crate, block
         sub(/.* for /, "", line)
     }
     owner = first_word(line) "::"

@@ -5,9 +5,9 @@ ghost use Rattle.ground_report.specs.Subject.{AreOf};
 
 use charge_model::Span;
 use charge_state::Charges;
+use ground_entries::GroundList;
 use linear_form::{energy_form, form_span};
 use potential_problem::Problem;
-use ground_entries::GroundList;
 use sidb_units::Memory;
 use std::alloc::Global;
 

@@ -7,10 +7,10 @@ ghost use Rattle.occupation.specs.Shares.{IsGapSpan};
 
 use charge_state::Charges;
 use fixed_enclosure::{Span, span_between};
+use ground_entries::GroundList;
 use linear_form::laws::{same_greatest_values, same_least_values};
 use linear_form::{Form, energy_form, form_span, minus};
 use potential_problem::Problem;
-use ground_entries::GroundList;
 use sidb_units::Memory;
 use std::alloc::Global;
 

@@ -10,8 +10,8 @@ use crate::energies::energies_of;
 use crate::laws::{rounded_shares_are_parts, rounded_shares_enclose_the_intervals};
 use crate::sums::{Factors, all_sums};
 use crate::{MAX_KT, MIN_KT, ONE, WHOLE};
-use potential_problem::Problem;
 use ground_entries::GroundList;
+use potential_problem::Problem;
 use sidb_units::Memory;
 use std::alloc::Global;
 

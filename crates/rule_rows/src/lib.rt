@@ -27,3 +27,5 @@ mod of_prefix_bound;
 mod of_prefix_extremes;
 #[cfg(test)]
 mod of_shared_board;
+#[cfg(test)]
+mod problems;

@@ -1,4 +1,7 @@
-use charge_state::{Charge, ChargeFault, Charges, MINUS, Test, cmp_charges, first_charges, next_charges, print_charges, read_charges, test_at};
+use charge_state::{
+    Charge, ChargeFault, Charges, MINUS, Test, cmp_charges, first_charges, next_charges,
+    print_charges, read_charges, test_at,
+};
 use std::cmp::Ordering;
 use std::test::Fail;
 

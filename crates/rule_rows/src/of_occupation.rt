@@ -3,11 +3,11 @@ ghost use Rattle.charge_model.specs.declared.charge.Charge.TheVariants.{Neg, Neu
 ghost use Rattle.charge_model.specs.declared.TheConstants.{MAX_POTENTIAL};
 ghost use Rattle.charge_model.specs.GroundList.{lists_of};
 
-use occupation::{MAX_KT, MIN_KT, Share, occupation};
 use charge_state::{Charge, Charges};
 use fixed_enclosure::{Span, span_between};
-use potential_problem::{Levels, Problem, problem_with};
 use ground_entries::{Entry, GroundList, Mark, list_of};
+use occupation::{MAX_KT, MIN_KT, Share, occupation};
+use potential_problem::{Levels, Problem, problem_with};
 use sidb_units::Memory;
 use std::alloc::Global;
 use std::test::Fail;

@@ -1,28 +1,12 @@
 ghost use Rattle.std.specs.Prelude.{◌≡◌, ◌≤◌, IfOk, length};
 
-use prefix_bound::{Track, can, closed_at, low};
+use crate::problems::neighbours;
 use charge_state::{Charge, Charges, first_charges, next_charges};
-use potential_problem::{Levels, Problem, problem_of, span_between};
+use potential_problem::Problem;
+use prefix_bound::{Track, can, closed_at, low};
 use sidb_units::Memory;
 use std::alloc::Global;
 use std::test::Fail;
-
-/// Three neighbours along a row.
-fn three_neighbours(alloc: Global) -> Result<Problem, Memory>
-    ensures sites { IfOk result (λ p. p.sites ≡ 3) }
-    ensures base { IfOk result (λ p. p.base ≡ 3) }
-{
-    let spans = [
-        span_between(620_124_254_312, 620_124_254_313),
-        span_between(287_140_799_939, 287_140_799_940),
-    ];
-    let levels = Levels {
-        base: 3,
-        mu_minus: -320_000_000_000,
-        mu_plus: -910_000_000_000,
-    };
-    problem_of(alloc, 3, &[0, 1, 0], &spans, &levels)
-}
 
 /// Whether a track that came to the prefix, with each charge taken off and added again, answers
 /// as the plain calls.
@@ -66,7 +50,7 @@ fn takes_alike(problem: &Problem, prefix: &Charges, track: &Track) -> bool
 /// On every prefix of three neighbours.
 #[test]
 fn tracks_agree_with_plain_calls(rt: HostRuntime) -> Result<(), Fail> {
-    let problem = three_neighbours(rt.alloc())?;
+    let problem = neighbours(rt.alloc(), 3)?;
     let mut seen = 0u32;
     for n in 0..4 {
         let mut prefix = first_charges(n);

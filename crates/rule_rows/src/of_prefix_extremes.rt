@@ -1,22 +1,13 @@
-use prefix_extremes::{can, closed_at, low, may_be_positive};
+use crate::problems::neighbours;
 use charge_state::{Charge, Charges, read_charges};
-use potential_problem::{Levels, problem_of, span_between};
+use prefix_extremes::{can, closed_at, low, may_be_positive};
 use std::test::Fail;
 
 /// Three neighbours along a row. Only the site in the middle may be positive; two negative
 /// neighbours close the first.
 #[test]
 fn bounds_of_three_neighbours(rt: HostRuntime) -> Result<(), Fail> {
-    let spans = [
-        span_between(620_124_254_312, 620_124_254_313),
-        span_between(287_140_799_939, 287_140_799_940),
-    ];
-    let levels = Levels {
-        base: 3,
-        mu_minus: -320_000_000_000,
-        mu_plus: -910_000_000_000,
-    };
-    let problem = problem_of(rt.alloc(), 3, &[0, 1, 0], &spans, &levels)?;
+    let problem = neighbours(rt.alloc(), 3)?;
     let positive = [0, 1, 2].map(|k| k < 3 && may_be_positive(&problem, k));
     assert_eq!(rt; positive, [false, true, false]);
     assert!(rt; can(&problem, &Charges::empty(), 1, Charge::Pos));

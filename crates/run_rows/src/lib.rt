@@ -1,12 +1,8 @@
-//! Rows of runs: words and input, and the status and output that they must give.
+//! Runs over sources and sinks that fail, or never do, and one row of each task.
 #![tactic(auto)]
 
 #[cfg(test)]
-mod limits;
-#[cfg(test)]
-mod refused;
-#[cfg(test)]
-mod rows;
+mod case;
 mod steady;
 
 pub use steady::steady_run;

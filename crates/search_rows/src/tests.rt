@@ -3,11 +3,11 @@ ghost use Rattle.sidb_units.specs.declared.TheConstants.{MAX_NODES};
 ghost use Rattle.window_model.specs.Windows.{IsWindow};
 
 use entry_lines::entry_line;
+use ground_entries::GroundList;
 use ground_state::{SolveAnswer, solve, solve_window};
 use plain_search::{plain_solve, plain_window};
 use potential_problem::Problem;
 use potential_table::read_table;
-use ground_entries::GroundList;
 use sidb_io::NoGate;
 use sidb_units::{MAX_NODES, Memory};
 use std::alloc::Global;

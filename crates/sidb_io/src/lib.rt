@@ -27,4 +27,3 @@ pub use source::Source;
 pub use steady_sink::SteadySink;
 pub use steady_source::SteadySource;
 pub use write_whole::write_all;
-

@@ -41,4 +41,3 @@ pub const DEFAULT_WORKERS: u64 = 4;
 
 /// The most points of a grid, in each of its two directions.
 pub const MAX_GRID: usize = 64;
-

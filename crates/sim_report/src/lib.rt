@@ -10,4 +10,3 @@ mod rows;
 pub use ground_report::About;
 pub use report::ground_text;
 pub use sim_report_json::ground_json;
-

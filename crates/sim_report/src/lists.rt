@@ -10,9 +10,9 @@ ghost use Rattle.sim_report.specs.GroundText.{AreEntryLines, energy_row};
 use crate::rows::push_row;
 use charge_model::Span;
 use entry_lines::entry_line;
+use ground_entries::{Entry, GroundList};
 use ground_report::energy_spans;
 use potential_problem::Problem;
-use ground_entries::{Entry, GroundList};
 use sidb_units::Memory;
 use std::alloc::Global;
 

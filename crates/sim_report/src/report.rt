@@ -5,9 +5,9 @@ ghost use Rattle.sim_report.specs.GroundText.{IsGroundText, count_rows, layout_r
 
 use crate::layout::layout_lines;
 use crate::lists::list_lines;
+use ground_entries::GroundList;
 use ground_report::About;
 use potential_problem::Problem;
-use ground_entries::GroundList;
 use sidb_units::Memory;
 use std::alloc::Global;
 

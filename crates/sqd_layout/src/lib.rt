@@ -11,4 +11,3 @@ pub use fault::SqdFault;
 pub use found::Found;
 pub use sites::read_sites;
 pub use sqd::read_sqd;
-

@@ -12,4 +12,3 @@ pub use bytes::{begins_name, is_blank, is_in_name};
 pub use kind::Kind;
 pub use tag::{end_name, tag_name};
 pub use tag_value::attribute;
-

@@ -12,4 +12,3 @@ mod text_marks;
 pub use fault::MarkFault;
 pub use read::Found;
 pub use text_marks::read_marks;
-

@@ -6,4 +6,3 @@ mod mark_scan;
 mod stage;
 
 pub use mark_scan::{ScanFault, Whole, scan};
-

@@ -110,12 +110,7 @@ struct First {
 
 /// Told by passes with smaller limits: the count of nodes grows mostly as fast from the one to the
 /// other as from there on.
-fn first_pass(
-    alloc: Global,
-    problem: &Problem,
-    limit: u64,
-    over: i64,
-) -> Result<First, Memory> {
+fn first_pass(alloc: Global, problem: &Problem, limit: u64, over: i64) -> Result<First, Memory> {
     let above = low(problem, &Charges::empty()).saturating_sub(1);
     let few = narrower(alloc, problem, limit / 4096, Gap { above, over }, over)?;
     let above = few.gap.above;

@@ -1,0 +1,62 @@
+use sidb_io::{MemSink, MemSource, NoGate};
+use sidb_units::WordList;
+use sim_cli::{code, run};
+use std::alloc::Global;
+use std::test::Fail;
+use std::thread::Threads;
+
+/// A run over memory: its words, its input, how many bytes a call gives or takes at most, and the
+/// number of the read and of the write that fails.
+#[derive(Clone, Copy)]
+pub struct Case<'a> {
+    pub words: &'a str,
+    pub input: &'a str,
+    pub piece: usize,
+    pub failed_read: Option<u64>,
+    pub failed_write: Option<u64>,
+}
+
+/// A run in which nothing fails.
+pub fn plain<'a>(words: &'a str, input: &'a str) -> Case<'a> {
+    Case {
+        words,
+        input,
+        piece: 9,
+        failed_read: None,
+        failed_write: None,
+    }
+}
+
+/// The words between the spaces.
+pub fn word_list(alloc: Global, line: &str) -> Result<WordList, Fail> {
+    let mut words = WordList::new(alloc).ok().ok_or("list")?;
+    for word in line.split(' ') {
+        if !word.is_empty() {
+            words.push(word).ok().ok_or("word")?;
+        }
+    }
+    Ok(words)
+}
+
+/// The exit status, and what was written.
+pub fn outcome<R: Threads + Sync>(
+    rt: &R,
+    alloc: Global,
+    case: &Case<'_>,
+) -> Result<(u8, Vec<u8>), Fail> {
+    let words = word_list(alloc, case.words)?;
+    let bytes = case.input.as_bytes().to_vec(alloc)?;
+    let mut source = MemSource::new(bytes, case.piece, numbers(alloc, case.failed_read)?);
+    let room = Vec::with_capacity(alloc, 8192)?;
+    let mut sink = MemSink::new(room, case.piece, numbers(alloc, case.failed_write)?);
+    let status = run(rt, alloc, &words, &mut source, &mut sink, &NoGate);
+    Ok((code(&status), sink.written().to_vec(alloc)?))
+}
+
+fn numbers(alloc: Global, number: Option<u64>) -> Result<Vec<u64>, Fail> {
+    let mut numbers = Vec::new(alloc);
+    if let Some(number) = number {
+        numbers.push(number)?;
+    }
+    Ok(numbers)
+}
