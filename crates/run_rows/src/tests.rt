@@ -87,7 +87,7 @@ fn the_end_may_fail(rt: HostRuntime) -> Result<(), Fail> {
 #[test]
 fn steady_ends(rt: HostRuntime) -> Result<(), Fail> {
     let alloc = rt.alloc();
-    let words = word_list(alloc, "--limit 4")?;
+    let words = word_list(alloc, "--workers 1")?;
     let mut source = SteadySource::new(TWO.as_bytes().to_vec(alloc)?);
     let mut sink = SteadySink::new();
     let status = steady_run(&rt, alloc, &words, &mut source, &mut sink, &NoGate);
