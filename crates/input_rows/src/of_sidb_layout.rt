@@ -43,13 +43,17 @@ fn the_first_fault_is_given(rt: HostRuntime) -> Result<(), Fail> {
         site: at(1, 0, 0),
         charge: 0,
     };
+    let positive = Fix {
+        charge: 1,
+        ..neutral
+    };
     let cases = [
         (
             layout_of(rt.alloc(), row.as_slice()),
             LayoutFault::Duplicate(1, 2),
         ),
         (
-            layout_with(rt.alloc(), &[], [neutral; 9].as_slice()),
+            layout_with(rt.alloc(), &[], [positive; 9].as_slice()),
             LayoutFault::TooManyFixes,
         ),
         (

@@ -1,4 +1,4 @@
-use sidb_io::{MemSink, MemSource, NoGate};
+use sidb_io::{Gate, MemSink, MemSource};
 use sidb_units::WordList;
 use sim_cli::{code, run};
 use std::alloc::Global;
@@ -39,17 +39,18 @@ pub fn word_list(alloc: Global, line: &str) -> Result<WordList, Fail> {
 }
 
 /// The exit status, and what was written.
-pub fn outcome<R: Threads + Sync>(
+pub fn outcome<R: Threads + Sync, G: Gate>(
     rt: &R,
     alloc: Global,
     case: &Case<'_>,
+    gate: &G,
 ) -> Result<(u8, Vec<u8>), Fail> {
     let words = word_list(alloc, case.words)?;
     let bytes = case.input.as_bytes().to_vec(alloc)?;
     let mut source = MemSource::new(bytes, case.piece, numbers(alloc, case.failed_read)?);
     let room = Vec::with_capacity(alloc, 8192)?;
     let mut sink = MemSink::new(room, case.piece, numbers(alloc, case.failed_write)?);
-    let status = run(rt, alloc, &words, &mut source, &mut sink, &NoGate);
+    let status = run(rt, alloc, &words, &mut source, &mut sink, gate);
     Ok((code(&status), sink.written().to_vec(alloc)?))
 }
 

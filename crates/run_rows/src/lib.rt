@@ -3,6 +3,8 @@
 
 #[cfg(test)]
 mod case;
+#[cfg(test)]
+mod meeting;
 mod steady;
 
 pub use steady::steady_run;

@@ -1,4 +1,5 @@
 use crate::case::{Case, outcome, plain, word_list};
+use crate::meeting::Meeting;
 use crate::steady_run;
 use sidb_io::{NoGate, SteadySink, SteadySource};
 use sim_cli::code;
@@ -23,7 +24,7 @@ const TASKS: [(&str, &str, &str); 2] = [
 #[test]
 fn one_row_of_each_task(rt: HostRuntime) -> Result<(), Fail> {
     for (words, input, wanted) in TASKS {
-        let (code, output) = outcome(&rt, rt.alloc(), &plain(words, input))?;
+        let (code, output) = outcome(&rt, rt.alloc(), &plain(words, input), &NoGate)?;
         assert_eq!(rt; code, 0, "{words}");
         assert_eq!(rt; output.as_slice(), wanted.as_bytes(), "{words}");
     }
@@ -37,11 +38,11 @@ fn refused_words_read_nothing(rt: HostRuntime) -> Result<(), Fail> {
         failed_read: Some(0),
         ..plain("hello", TWO)
     };
-    let (code, output) = outcome(&rt, rt.alloc(), &case)?;
+    let (code, output) = outcome(&rt, rt.alloc(), &case, &NoGate)?;
     assert_eq!(rt; code, 2);
     assert_eq!(rt; output.as_slice(), b"fault words\n".as_slice());
     case.failed_write = Some(1);
-    let (code, output) = outcome(&rt, rt.alloc(), &case)?;
+    let (code, output) = outcome(&rt, rt.alloc(), &case, &NoGate)?;
     assert_eq!(rt; code, 8);
     assert_eq!(rt; output.as_slice(), b"fault wor".as_slice());
     Ok(())
@@ -58,12 +59,12 @@ fn faults_of_the_outside(rt: HostRuntime) -> Result<(), Fail> {
             failed_read: Some(call),
             ..plain("", TWO)
         };
-        let (code, output) = outcome(&rt, alloc, &case)?;
+        let (code, output) = outcome(&rt, alloc, &case, &NoGate)?;
         assert_eq!(rt; code, if call < 3 { 7 } else { 0 });
         assert_eq!(rt; output.len(), if call < 3 { 0 } else { whole.len() });
         case.failed_read = None;
         case.failed_write = Some(call);
-        let (code, output) = outcome(&rt, alloc, &case)?;
+        let (code, output) = outcome(&rt, alloc, &case, &NoGate)?;
         assert_eq!(rt; code, if call < 10 { 8 } else { 0 });
         assert_eq!(rt; output.len(), whole.len().min(call as usize * 10));
     }
@@ -78,16 +79,35 @@ fn the_end_may_fail(rt: HostRuntime) -> Result<(), Fail> {
         failed_read: Some(1),
         ..plain("", TWO)
     };
-    let (code, output) = outcome(&rt, rt.alloc(), &case)?;
+    let (code, output) = outcome(&rt, rt.alloc(), &case, &NoGate)?;
     assert_eq!(rt; code, 7);
     assert!(rt; output.is_empty());
+    Ok(())
+}
+
+/// Two workers are at work at the same time, and the answer is that of one. Sites that are far
+/// from each other.
+#[test]
+fn two_workers_meet(rt: HostRuntime) -> Result<(), Fail> {
+    let alloc = rt.alloc();
+    let mut sites = String::new(alloc);
+    for k in 0..40u64 {
+        let line = format!(in alloc; "{k}0 0 0\n")?;
+        sites.push_str(&line)?;
+    }
+    let gate = Meeting::new();
+    let (code, both) = outcome(&rt, alloc, &plain("--workers 2", &sites), &gate)?;
+    assert_eq!(rt; code, 0);
+    assert!(rt; gate.is_over());
+    let (_, one) = outcome(&rt, alloc, &plain("--workers 1", &sites), &NoGate)?;
+    assert_eq!(rt; both.as_slice(), one.as_slice());
     Ok(())
 }
 
 #[test]
 fn steady_ends(rt: HostRuntime) -> Result<(), Fail> {
     let alloc = rt.alloc();
-    let words = word_list(alloc, "--limit 4")?;
+    let words = word_list(alloc, "--workers 1")?;
     let mut source = SteadySource::new(TWO.as_bytes().to_vec(alloc)?);
     let mut sink = SteadySink::new();
     let status = steady_run(&rt, alloc, &words, &mut source, &mut sink, &NoGate);
