@@ -1,7 +1,6 @@
 // Reads what the task of the settings reads.
 ghost use Rattle.std.specs.Prelude.{◌≡◌, ◌≤◌, length};
 ghost use Rattle.std.specs.Io.KnownBytes.{IsAtEnd};
-ghost use Rattle.command_words.specs.Settings.{AreInRange};
 ghost use Rattle.sidb_io.specs.Outside.{HasFault};
 ghost use Rattle.sim_cli.specs.Reading.{IsAnswerable, IsReadingOf, IsToTheEnd};
 ghost use Rattle.sim_cli.specs.Run.{ForBytesLeft};
@@ -28,7 +27,6 @@ pub enum Reading {
 
 /// Reads the input whole, and what it means.
 pub fn read_for<S: Source>(alloc: Global, settings: &Settings, source: &mut S) -> Reading
-    requires { AreInRange settings.now }
     ensures means { ForBytesLeft (S.left source.old) (IsReadingOf settings.now result) }
     ensures end { IsToTheEnd result → IsAtEnd (S.left source.new) }
     ensures short { ForBytesLeft (S.left source.old) (λ bytes. length bytes ≤ MAX_INPUT_BYTES)
@@ -46,7 +44,6 @@ pub fn read_for<S: Source>(alloc: Global, settings: &Settings, source: &mut S) -
 
 /// What the bytes of the input mean.
 fn reading_of(alloc: Global, settings: &Settings, bytes: &[u8]) -> Reading
-    requires { AreInRange settings.now }
     ensures means { IsReadingOf settings.now result bytes.now }
     ensures answerable { IsAnswerable result }
 {

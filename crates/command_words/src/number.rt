@@ -1,57 +1,10 @@
 // The numbers that options give.
 ghost use Rattle.std.specs.Prelude.{◌≡◌, ◌≤◌, ◌≤ℤ◌, ℕ, ℤ, pos, IfSome, IfNone};
-ghost use Rattle.command_words.specs.Settings.{IsNumber, IsWithin, text_of};
+ghost use Rattle.model_params.specs.Quantities.{IsWithin};
+ghost use Rattle.command_words.specs.Options.{IsNumber, text_of};
 
+use model_params::Quantity;
 use sidb_units::read_dec;
-
-/// A number that an option gives: a decimal with at most `places` digits after its point, in units
-/// of 10^-places, from `least` to `greatest`. Where the option is not given it is `preset`.
-pub struct Quantity {
-    pub places: u32,
-    pub least: i64,
-    pub greatest: i64,
-    pub preset: i64,
-}
-
-/// Relative permittivity, in 10^-4.
-pub const PERMITTIVITY: Quantity = Quantity {
-    places: 4,
-    least: 10_000,
-    greatest: 1_000_000,
-    preset: 56_000,
-};
-
-/// Screening length, in 10^-4 nm.
-pub const SCREENING_LENGTH: Quantity = Quantity {
-    places: 4,
-    least: 1_000,
-    greatest: 10_000_000,
-    preset: 50_000,
-};
-
-/// How far the upper level lies below 0, in 10^-12 V.
-pub const LEVEL_DEPTH: Quantity = Quantity {
-    places: 12,
-    least: 0,
-    greatest: 2_000_000_000_000,
-    preset: 320_000_000_000,
-};
-
-/// How far the lower level lies below the upper one, in 10^-12 V.
-pub const LEVEL_GAP: Quantity = Quantity {
-    places: 12,
-    least: 0,
-    greatest: 2_000_000_000_000,
-    preset: 590_000_000_000,
-};
-
-/// The Coulomb number, in 10^-6 V·Å.
-pub const COULOMB_NUMBER: Quantity = Quantity {
-    places: 6,
-    least: 14_000_000,
-    greatest: 15_000_000,
-    preset: 14_399_645,
-};
 
 /// The most nodes of a search.
 pub const NODE_LIMIT: Quantity = Quantity {

@@ -1,18 +1,22 @@
-ghost use Rattle.std.specs.Prelude.{◌≡◌, ◌↔◌, ◌≤ℤ◌, IsTrue, IsSome, IfSome};
-ghost use Rattle.screened_coulomb.specs.Ranges.{AreInRange};
+ghost use Rattle.std.specs.Prelude.{◌≡◌, ◌↔◌, IsSome, IfSome};
+ghost use Rattle.model_params.specs.Params.{AreInRange};
 
-use crate::{MAX_COULOMB, MAX_DEPTH, MAX_EPS, MAX_GAP, MAX_LAM, MIN_COULOMB, MIN_EPS, MIN_LAM};
+use crate::{COULOMB_NUMBER, LEVEL_DEPTH, LEVEL_GAP, PERMITTIVITY, SCREENING_LENGTH};
 
-/// What the potentials and the levels of a layout depend on: the Coulomb number in 10^-6 V·Å, the
-/// relative permittivity in 10^-4, the screening length in 10^-4 nm, the depth of the upper level
-/// and the gap to the lower one in 10^-12 V, and the number of charges that a site can have.
+/// What the potentials and the levels of a layout depend on.
 #[derive(Clone, Copy, PartialEq, Eq, Debug)]
 pub struct Params {
+    /// The Coulomb number, in 10^-6 V·Å.
     pub coulomb: i64,
+    /// Relative permittivity, in 10^-4.
     pub eps: i64,
+    /// Screening length, in 10^-4 nm.
     pub lam: i64,
+    /// How far the upper level lies below 0, in 10^-12 V.
     pub depth: i64,
+    /// How far the lower level lies below the upper one, in 10^-12 V.
     pub gap: i64,
+    /// How many charges a site may have: 2 or 3.
     pub base: u64,
     ghost in_range: { AreInRange coulomb eps lam depth gap base },
 }
@@ -31,19 +35,19 @@ pub fn params_of(
         (p.coulomb ≡ coulomb) × (p.eps ≡ eps) × (p.lam ≡ lam)) }
     ensures levels { IfSome result (λ p. (p.depth ≡ depth) × (p.gap ≡ gap) × (p.base ≡ base)) }
 {
-    if !is_within(coulomb, MIN_COULOMB, MAX_COULOMB) {
+    if !COULOMB_NUMBER.holds(coulomb) {
         return None;
     }
-    if !is_within(eps, MIN_EPS, MAX_EPS) {
+    if !PERMITTIVITY.holds(eps) {
         return None;
     }
-    if !is_within(lam, MIN_LAM, MAX_LAM) {
+    if !SCREENING_LENGTH.holds(lam) {
         return None;
     }
-    if !is_within(depth, 0, MAX_DEPTH) {
+    if !LEVEL_DEPTH.holds(depth) {
         return None;
     }
-    if !is_within(gap, 0, MAX_GAP) {
+    if !LEVEL_GAP.holds(gap) {
         return None;
     }
     if base < 2 || 3 < base {
@@ -57,11 +61,4 @@ pub fn params_of(
         gap,
         base,
     })
-}
-
-/// Whether a number is at least the one and at most the other.
-fn is_within(number: i64, least: i64, greatest: i64) -> bool
-    ensures { IsTrue result ↔ ((least ≤ℤ number) × (number ≤ℤ greatest)) }
-{
-    least <= number && number <= greatest
 }
