@@ -20,16 +20,16 @@ use std::thread::Threads;
 pub fn ground_answer<R: Threads + Sync, G: Gate>(
     rt: &R,
     alloc: Global,
-    problem: &Problem,
-    about: &About,
     settings: &Settings,
+    about: &About,
+    problem: &Problem,
     gate: &G,
 ) -> Result<Due, Memory>
     ensures { IfOk result (DueIs (IsGroundAnswer settings.now about.now problem.now)) }
 {
     let SearchSettings { limit, workers, .. } = settings.search;
     match solve(rt, alloc, problem, limit, workers, gate) {
-        SolveAnswer::List(solved) => list_due(alloc, problem, about, settings, &solved.list),
+        SolveAnswer::List(solved) => list_due(alloc, settings, about, problem, &solved.list),
         SolveAnswer::Budget => budget_due(alloc, limit),
         SolveAnswer::ListTooLong => Ok(long_list_due()),
         SolveAnswer::Memory => Err(Memory),
@@ -39,9 +39,9 @@ pub fn ground_answer<R: Threads + Sync, G: Gate>(
 /// The report of the ground list.
 fn list_due(
     alloc: Global,
-    problem: &Problem,
-    about: &About,
     settings: &Settings,
+    about: &About,
+    problem: &Problem,
     list: &GroundList,
 ) -> Result<Due, Memory>
     requires budget { IsWithinBudget problem.now settings.now.search.limit }
@@ -49,7 +49,7 @@ fn list_due(
     ensures { IfOk result (DueIs (IsGroundAnswer settings.now about.now problem.now)) }
 {
     let _few = list.len();
-    let text = report_of(alloc, problem, about, settings, list)?;
+    let text = report_of(alloc, settings, about, problem, list)?;
     Ok(Due {
         status: Status::Answered,
         text: DueText::Whole(text.into_bytes()),

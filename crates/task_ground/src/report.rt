@@ -14,9 +14,9 @@ use std::alloc::Global;
 /// The report of the list that the settings ask for.
 pub fn report_of(
     alloc: Global,
-    problem: &Problem,
-    about: &About,
     settings: &Settings,
+    about: &About,
+    problem: &Problem,
     list: &GroundList,
 ) -> Result<String, Memory>
     requires { AreOf problem.now list.now }
