@@ -1,8 +1,8 @@
 ghost use Rattle.std.specs.Prelude.{◌≤◌, IfOk, IsTrue};
-ghost use Rattle.charge_model.specs.Tree.{IsLeastCertain};
+ghost use Rattle.charge_model.specs.Tree.{IsLeastCertain, node_count};
 ghost use Rattle.charge_model.specs.GroundList.{ListsEachLeast, lists_of};
 ghost use Rattle.sidb_units.specs.declared.TheConstants.{MAX_NODES, MAX_WORKERS};
-ghost use Rattle.window_model.specs.Windows.{IsWindow, ListsEachNear};
+ghost use Rattle.window_model.specs.Windows.{IsWindow, IsMarkedWindowList, ListsEachNear};
 ghost use Rattle.candidate_marks.specs.Found.{IsWindowFound, CertainAreGround, CertainAreNear, UnresolvedFail, UnresolvedFailWithin};
 ghost use Rattle.tree_leaves.specs.Leaves.{AreLeaves};
 ghost use Rattle.tree_leaves.specs.Answer.{IsListed};
@@ -13,6 +13,7 @@ use crate::keeping::contenders;
 use crate::reach::{Reach, reach_of};
 use branch_search::{Bound, least_bound};
 use candidate_marks::window_list_of;
+use checked_walk::walk_checked;
 use ground_entries::{GroundList, Solved};
 use ground_list_laws::laws::{
     certain_entries_are_ground_states, ground_states_are_listed, unresolved_entries_fail,
@@ -77,6 +78,30 @@ fn window_list_in(
     window_list_of(alloc, problem, &reach.window, kept)
 }
 
+/// The answer where this is the list, once a checker has taken its certificate.
+fn checked(
+    alloc: Global,
+    problem: &Problem,
+    reach: &Reach,
+    _limit: u64,
+    list: GroundList,
+) -> SolveAnswer
+    requires reach { IsReach problem.now reach.now }
+    requires list { IsMarkedWindowList problem.now reach.now.window.width list }
+    requires within { node_count problem.now reach.now.end ≤ _limit }
+    requires limit { _limit ≤ MAX_NODES }
+    ensures { IsWindowSolved problem.now reach.now.window.width _limit result }
+{
+    match walk_checked(alloc, problem, reach.window, reach.bound, &list) {
+        Err(Memory) => SolveAnswer::Memory,
+        Ok(nodes) => SolveAnswer::List(Solved {
+            list,
+            bound: reach.bound,
+            nodes,
+        }),
+    }
+}
+
 /// The answer where the tree up to the end of the window has these leaves.
 fn solved(
     alloc: Global,
@@ -87,16 +112,13 @@ fn solved(
 ) -> SolveAnswer
     requires reach { IsReach problem.now reach.now }
     requires leaves { IsListed problem.now reach.now.end limit leaves.now }
+    requires limit { limit ≤ MAX_NODES }
     ensures { IsWindowSolved problem.now reach.now.window.width limit result }
 {
     match window_list_in(alloc, problem, reach, leaves) {
         Err(Memory) => SolveAnswer::Memory,
         Ok(None) => SolveAnswer::ListTooLong,
-        Ok(Some(list)) => SolveAnswer::List(Solved {
-            list,
-            bound: reach.bound,
-            nodes: leaves.nodes(),
-        }),
+        Ok(Some(list)) => checked(alloc, problem, reach, limit, list),
     }
 }
 

@@ -2,9 +2,10 @@ ghost use Rattle.std.specs.Prelude.{◌≤◌};
 ghost use Rattle.sidb_units.specs.declared.TheConstants.{MAX_NODES};
 ghost use Rattle.window_model.specs.Windows.{IsWindow};
 
+use energy_window::{WindowAnswer, solve_window};
 use entry_lines::entry_line;
 use ground_entries::GroundList;
-use ground_state::{SolveAnswer, solve, solve_within};
+use ground_state::{SolveAnswer, solve};
 use plain_search::{plain_solve, plain_window};
 use potential_problem::Problem;
 use potential_table::read_table;
@@ -160,11 +161,11 @@ fn by_search_within<R: Threads + Sync>(
 ) -> Result<String, Fail>
     requires { IsWindow window }
 {
-    match solve_within(rt, alloc, problem, window, MAX_NODES, 1, &NoGate) {
-        SolveAnswer::List(solved) => lines_of(alloc, &solved.list),
-        SolveAnswer::Budget => Ok(String::from_str(alloc, "budget")?),
-        SolveAnswer::ListTooLong => Ok(String::from_str(alloc, "too long")?),
-        SolveAnswer::Memory => Err(Memory)?,
+    match solve_window(rt, alloc, problem, window, MAX_NODES, 1, &NoGate) {
+        WindowAnswer::List(list) => lines_of(alloc, &list),
+        WindowAnswer::Budget => Ok(String::from_str(alloc, "budget")?),
+        WindowAnswer::ListTooLong => Ok(String::from_str(alloc, "too long")?),
+        WindowAnswer::Memory => Err(Memory)?,
     }
 }
 
