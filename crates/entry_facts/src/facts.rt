@@ -9,10 +9,10 @@ use charge_model::laws::problems_have_tables;
 use charge_state::Charges;
 use charge_validity::laws::decided_lists_are_not_certain;
 use charge_validity::own_mark;
+use ground_entries::{GroundList, Mark};
 use leaf_rules::{is_certain as is_certain_on, is_possible as is_possible_on};
 use potential_problem::Problem;
 use prefix_bound::Track;
-use ground_entries::{GroundList, Mark};
 use sidb_units::Memory;
 use std::alloc::Global;
 

@@ -140,13 +140,16 @@ module _ (p : Problem) (window : ℤ) (es : List Marked) (laws : AreVerdictLaws 
     where
       by : Tested prefix token → (Passes p window ls prefix token → Answered ((front ++ token ∷ []) ++ rest)) → Answered (front ++ token ∷ rest)
       by (inl passes) more = subst Answered (append_assoc front (token ∷ []) rest) (more passes)
-      by (inr (why, fails)) more = inr (Close (length front) why, record {
-        front = front;
-        token = token;
-        place = refl;
-        after = (rest, refl);
-        refused = record { prefix = prefix; trail = trail; refused = fails };
-      })
+      by (inr (why, fails)) more = inr (
+        Close (length front) why,
+        record {
+          front = front;
+          token = token;
+          place = refl;
+          after = (rest, refl);
+          refused = record { prefix = prefix; trail = trail; refused = fails };
+        },
+      )
 
   -- the tests of an entry
   order_decided : (j : ℕ) → j < length ls → Decided (EntryMeets p window es j Order)
@@ -249,12 +252,15 @@ module _ (p : Problem) (window : ℤ) (es : List Marked) (laws : AreVerdictLaws 
   verdict tokens = by (first_below (length es) Fails fails_or_not)
     where
       by : First (length es) Fails ⊎ NoneBelow (length es) Fails → IsSound p window es tokens ⊎ ((r : CertRefusal) × IsRefusal p window es tokens r)
-      by (inl some) = inr (Entry some.place some.holds.0, record {
-        entry = some.within;
-        before = λ i less. passes_at i (omega (arith, less, some.within)) (some.first i less);
-        fails = some.holds.1.fails;
-        first = some.holds.1.first;
-      })
+      by (inl some) = inr (
+        Entry some.place some.holds.0,
+        record {
+          entry = some.within;
+          before = λ i less. passes_at i (omega (arith, less, some.within)) (some.first i less);
+          fails = some.holds.1.fails;
+          first = some.holds.1.first;
+        },
+      )
       by (inr none) = at (tokens_tested [] tokens (Some []) refl)
         where
           sound : AreSoundEntries p window es
