@@ -1,18 +1,29 @@
 -- an option has one meaning, and so have the words
-use Rattle.std.proofs.Common.{◌≡◌, ◌∙◌, sym, ap, refl, inl, inr, ℕ, ℤ, pos, List, Option, None, Some, Bool, true, false, codes, arith, slice_index_or}
+use Rattle.std.proofs.Common.{◌≡◌, ◌∙◌, sym, ap, subst, refl, inl, inr, ℕ, ℤ, pos, List, Option, None, Some, Bool, true, false, codes, arith, slice_index_or}
 use Rattle.clap.specs.Walk.{Text}
 use Rattle.sidb_units.specs.Decimal.{IsReadAs}
-use Rattle.command_words.specs.declared.quantity.Quantity.{Quantity}
+use Rattle.std.proofs.Props.{props}
+use Rattle.model_params.specs.declared.params.Params.{Params}
+use Rattle.model_params.specs.declared.quantity.Quantity.{Quantity}
+use Rattle.model_params.specs.Quantities.{coulomb_number, level_depth, level_gap, permittivity, screening_length}
 use Rattle.command_words.specs.declared.settings.Settings.{Settings}
+use Rattle.command_words.specs.declared.settings.SearchSettings.{SearchSettings}
+use Rattle.command_words.specs.declared.settings.ReportSettings.{ReportSettings}
 use Rattle.command_words.specs.declared.settings.Task.{Task}
 use Rattle.command_words.specs.declared.settings.Task.TheVariants.{Ground, Potentials}
 use Rattle.command_words.specs.declared.settings.Form.{Form}
 use Rattle.command_words.specs.declared.settings.Form.TheVariants.{Sites, Sqd, Table}
-use Rattle.command_words.specs.Settings.{IsBase, IsChoice, IsGiven, IsNumber, AreSettings, form_name, task_name}
+use Rattle.command_words.specs.Limits.{AreSearchLimits, node_limit, worker_count}
+use Rattle.command_words.specs.Options.{IsBase, IsChoice, IsGiven, IsNumber}
+use Rattle.command_words.specs.Settings.{AreParams, AreReportSettings, AreSearchSettings, AreSettings, form_name, task_name}
 
 -- a text is read as one number
 abbrev pub IsReadOnce : Type 0
 IsReadOnce = (text : List ℕ) (places : ℕ) (least greatest v w : ℤ) → IsReadAs text places least greatest v → IsReadAs text places least greatest w → v ≡ w
+
+-- parameters are given by their numbers
+abbrev pub AreGivenByNumbers : Type 0
+AreGivenByNumbers = (p q : Params) → p.coulomb ≡ q.coulomb → p.eps ≡ q.eps → p.lam ≡ q.lam → p.depth ≡ q.depth → p.gap ≡ q.gap → p.base ≡ q.base → p ≡ q
 
 one_number : IsReadOnce → (q : Quantity) (given : Option Text) (v w : ℤ) → IsNumber q given v → IsNumber q given w → v ≡ w
 one_number once q None v w e f = e ∙ sym f
@@ -60,40 +71,67 @@ one_flag told false false e f = refl
 one_flag told true false e f = let both : ◌≡◌ {A = Bool} false true = f.1 (e.0 refl) in absurd (cc)
 one_flag told false true e f = let both : ◌≡◌ {A = Bool} false true = e.1 (f.0 refl) in absurd (cc)
 
--- the settings with these values
-abbrev made : Task → Form → ℤ → ℤ → ℤ → ℤ → ℤ → ℕ → ℕ → ℕ → Bool → Bool → Settings
-made t f e l d g c b n w j r = record {
-  task = t;
-  form = f;
-  eps = e;
-  lambda = l;
-  depth = d;
-  gap = g;
-  coulomb = c;
-  base = b;
-  limit = n;
-  workers = w;
-  json = j;
-  energies = r;
-}
+-- the parameters have one meaning
+one_params : IsReadOnce → AreGivenByNumbers → (value : Text → Option Text) (p q : Params) → AreParams value p → AreParams value q → p ≡ q
+one_params once given value p q a b =
+    given p q
+    (one_number once coulomb_number (value (codes "coulomb")) p.coulomb q.coulomb a.coulomb b.coulomb)
+    (one_number once permittivity (value (codes "eps")) p.eps q.eps a.eps b.eps)
+    (one_number once screening_length (value (codes "lambda")) p.lam q.lam a.lam b.lam)
+    (one_number once level_depth (value (codes "depth")) p.depth q.depth a.depth b.depth)
+    (one_number once level_gap (value (codes "gap")) p.gap q.gap a.gap b.gap)
+    (one_base (value (codes "base")) p.base q.base a.base b.base)
 
-same_settings : (t u : Task) (f h : Form) (e1 e2 l1 l2 d1 d2 g1 g2 c1 c2 : ℤ) (b1 b2 n1 n2 w1 w2 : ℕ) (j1 j2 r1 r2 : Bool) → t ≡ u → f ≡ h → e1 ≡ e2 → l1 ≡ l2 → d1 ≡ d2 → g1 ≡ g2 → c1 ≡ c2 → b1 ≡ b2 → n1 ≡ n2 → w1 ≡ w2 → j1 ≡ j2 → r1 ≡ r2 → made t f e1 l1 d1 g1 c1 b1 n1 w1 j1 r1 ≡ made u h e2 l2 d2 g2 c2 b2 n2 w2 j2 r2
-same_settings t u f h e1 e2 l1 l2 d1 d2 g1 g2 c1 c2 b1 b2 n1 n2 w1 w2 j1 j2 r1 r2 t= f= e= l= d= g= c= b= n= w= j= r= = cc
+-- there is one proof that the limits of a search are in range
+one_range : (limit workers : ℕ) (a b : AreSearchLimits limit workers) → a ≡ b
+one_range limit workers = hlevel props
 
-pub one_settings : IsReadOnce → (value : Text → Option Text) (a b : Settings) → AreSettings value a → AreSettings value b → a ≡ b
-one_settings once value a b e f =
-    let task : a.task ≡ b.task = one_choice task_name one_task Ground (value (codes "task")) a.task b.task e.task f.task in
-    let form : a.form ≡ b.form = one_choice form_name one_form Sites (value (codes "form")) a.form b.form e.form f.form in
-    let eps : a.eps ≡ b.eps = one_number once _ (value (codes "eps")) a.eps b.eps e.eps f.eps in
-    let lambda : a.lambda ≡ b.lambda = one_number once _ (value (codes "lambda")) a.lambda b.lambda e.lambda f.lambda in
-    let depth : a.depth ≡ b.depth = one_number once _ (value (codes "depth")) a.depth b.depth e.depth f.depth in
-    let gap : a.gap ≡ b.gap = one_number once _ (value (codes "gap")) a.gap b.gap e.gap f.gap in
-    let coulomb : a.coulomb ≡ b.coulomb = one_number once _ (value (codes "coulomb")) a.coulomb b.coulomb e.coulomb f.coulomb in
-    let base : a.base ≡ b.base = one_base (value (codes "base")) a.base b.base e.base f.base in
-    let limits : pos a.limit ≡ pos b.limit = one_number once _ (value (codes "limit")) (pos a.limit) (pos b.limit) e.limit f.limit in
-    let counts : pos a.workers ≡ pos b.workers = one_number once _ (value (codes "workers")) (pos a.workers) (pos b.workers) e.workers f.workers in
-    let limit : a.limit ≡ b.limit = cc in
-    let workers : a.workers ≡ b.workers = cc in
-    let json : a.json ≡ b.json = one_flag (value (codes "json")) a.json b.json e.json f.json in
-    let energies : a.energies ≡ b.energies = one_flag (value (codes "energies")) a.energies b.energies e.energies f.energies in
-    same_settings _ _ _ _ _ _ _ _ _ _ _ _ _ _ _ _ _ _ _ _ _ _ _ _ task form eps lambda depth gap coulomb base limit workers json energies
+-- limits of a search are given by their numbers
+same_limits : (n m : ℕ) (s t : SearchSettings) → n ≡ s.limit → m ≡ s.workers → n ≡ t.limit → m ≡ t.workers → s ≡ t
+same_limits n m s t limit workers also too =
+    let one : s.limit ≡ t.limit = sym limit ∙ also in
+    let other : s.workers ≡ t.workers = sym workers ∙ too in
+    made_same s.limit t.limit s.workers t.workers one other s.in_range t.in_range
+  where
+    made : (limit workers : ℕ) → AreSearchLimits limit workers → SearchSettings
+    made limit workers within = record { limit = limit; workers = workers; in_range = within }
+
+    made_same : (a b c d : ℕ) → a ≡ b → c ≡ d → (x : AreSearchLimits a c) (y : AreSearchLimits b d) → made a c x ≡ made b d y
+    made_same a b c d first second =
+        subst (λ (e : ℕ). (x : AreSearchLimits a c) (y : AreSearchLimits e d) → made a c x ≡ made e d y) first
+        (subst (λ (e : ℕ). (x : AreSearchLimits a c) (y : AreSearchLimits a e) → made a c x ≡ made a e y) second
+        (λ x y. ap (made a c) (one_range a c x y)))
+
+-- the limits of a search have one meaning
+one_search : IsReadOnce → (value : Text → Option Text) (s t : SearchSettings) → AreSearchSettings value s → AreSearchSettings value t → s ≡ t
+one_search once value s t a b =
+    let limits : pos s.limit ≡ pos t.limit = one_number once node_limit (value (codes "limit")) (pos s.limit) (pos t.limit) a.limit b.limit in
+    let counts : pos s.workers ≡ pos t.workers = one_number once worker_count (value (codes "workers")) (pos s.workers) (pos t.workers) a.workers b.workers in
+    let limit : s.limit ≡ t.limit = cc in
+    let workers : s.workers ≡ t.workers = cc in
+    same_limits s.limit s.workers s t refl refl limit workers
+
+-- settings of a report are given by their flags
+same_report : (a b c d : Bool) → a ≡ b → c ≡ d → ◌≡◌ {A = ReportSettings} (record { json = a; energies = c }) (record { json = b; energies = d })
+same_report a b c d json energies = cc
+
+-- the settings of a report have one meaning
+one_report : (value : Text → Option Text) (r t : ReportSettings) → AreReportSettings value r → AreReportSettings value t → r ≡ t
+one_report value r t a b =
+    same_report r.json t.json r.energies t.energies
+    (one_flag (value (codes "json")) r.json t.json a.json b.json)
+    (one_flag (value (codes "energies")) r.energies t.energies a.energies b.energies)
+
+-- settings are given by their groups
+same_settings : (t u : Task) (f h : Form) (p q : Params) (s r : SearchSettings) (m n : ReportSettings) → t ≡ u → f ≡ h → p ≡ q → s ≡ r → m ≡ n
+    → ◌≡◌ {A = Settings} (record { task = t; form = f; params = p; search = s; report = m }) (record { task = u; form = h; params = q; search = r; report = n })
+same_settings t u f h p q s r m n task form params search report = cc
+
+pub one_settings : IsReadOnce → AreGivenByNumbers → (value : Text → Option Text) (a b : Settings) → AreSettings value a → AreSettings value b → a ≡ b
+one_settings once given value a b e f =
+    same_settings a.task b.task a.form b.form a.params b.params a.search b.search a.report b.report
+    (one_choice task_name one_task Ground (value (codes "task")) a.task b.task e.task f.task)
+    (one_choice form_name one_form Sites (value (codes "form")) a.form b.form e.form f.form)
+    (one_params once given value a.params b.params e.params f.params)
+    (one_search once value a.search b.search e.search f.search)
+    (one_report value a.report b.report e.report f.report)

@@ -1,12 +1,15 @@
 -- each definition refuses a wrong value
-use Rattle.std.proofs.Common.{◌≡◌, ap, ◌⊎◌, inl, inr, ℕ, pos, [], ◌∷◌, Some, None, codes, arith, slice_index_or}
+use Rattle.std.proofs.Common.{◌≡◌, ap, inl, inr, ℕ, pos, [], ◌∷◌, Some, None, codes, arith, slice_index_or}
 use Rattle.std.proofs.lemmas.Int.{ints}
 use Rattle.command_words.specs.declared.settings.Settings.{Settings}
 use Rattle.command_words.specs.declared.settings.Task.{Task}
 use Rattle.command_words.specs.declared.settings.Task.TheVariants.{Ground, Potentials}
 use Rattle.command_words.specs.declared.settings.Form.{Form}
 use Rattle.command_words.specs.declared.settings.Form.TheVariants.{Sites, Sqd, Table}
-use Rattle.command_words.specs.Settings.{IsBase, IsChoice, IsNumber, IsSettingsOf, IsWithin, AreInRange, form_name, level_depth, level_gap, node_limit, permittivity, screening_length, task_name, worker_count}
+use Rattle.model_params.specs.Quantities.{IsWithin, level_depth, level_gap, permittivity, screening_length}
+use Rattle.command_words.specs.Limits.{node_limit, worker_count}
+use Rattle.command_words.specs.Options.{IsBase, IsChoice, IsNumber}
+use Rattle.command_words.specs.Settings.{IsSettingsOf, form_name, task_name}
 use Rattle.clap.proofs.OnLiterals.{clap_on_literals}
 use Rattle.command_words.specs.Command.{sidb_command, matches_in}
 use Rattle.command_words.proofs.StandardFacts.{rows, preset}
@@ -52,16 +55,9 @@ no_limit_of_zero within = omega (arith, ints, within.from)
 no_seventeen_workers : IsWithin worker_count (pos 17) → ⊥
 no_seventeen_workers within = omega (arith, ints, within.to)
 
-no_setting_out_of_range : AreInRange (record preset { base = 4 }) → ⊥
-no_setting_out_of_range are = by are.base
-  where
-    by : (◌≡◌ {A = ℕ} 4 2) ⊎ (◌≡◌ {A = ℕ} 4 3) → ⊥
-    by (inl e) = absurd (omega (arith, e))
-    by (inr e) = absurd (omega (arith, e))
-
 no_repeated_option : (s : Settings) → IsSettingsOf (codes "--eps" ∷ codes "5" ∷ codes "--eps" ∷ codes "5" ∷ []) s → ⊥
 no_repeated_option s means = let none = means.taken in let some = rows.repeated in absurd (cc (none, some))
 
-no_other_preset : IsSettingsOf [] (record preset { base = 2 }) → ⊥
+no_other_preset : IsSettingsOf [] (record preset { form = Table }) → ⊥
 unfolding clap_on_literals sidb_command matches_in
-no_other_preset means = omega (arith, means.values.base)
+no_other_preset means = absurd (cc (means.values.form))

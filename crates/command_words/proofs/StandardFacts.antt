@@ -1,12 +1,15 @@
 -- what the definition of the command says of some lists of words
-use Rattle.std.proofs.Common.{◌≡◌, refl, [], ◌∷◌, Some, None, false, codes, pos}
+use Rattle.std.proofs.Common.{◌≡◌, refl, [], ◌∷◌, Some, None, false, codes, arith}
+use Rattle.std.proofs.lemmas.Int.{ints}
 use Rattle.clap.specs.declared.error.kind.ErrorKind.TheVariants as kind
 use Rattle.clap.proofs.OnLiterals.{clap_on_literals}
 use Rattle.command_words.specs.declared.settings.Settings.{Settings}
+use Rattle.command_words.specs.declared.settings.SearchSettings.{SearchSettings}
 use Rattle.command_words.specs.declared.settings.Task.TheVariants.{Ground}
 use Rattle.command_words.specs.declared.settings.Form.TheVariants.{Sites}
 use Rattle.command_words.specs.Command.{sidb_command, refusals_of, matches_in, value_of}
 use Rattle.command_words.specs.Settings.{AreSettings, IsSettingsOf}
+use Rattle.model_params.proofs.StandardFacts.{preset as preset_params}
 
 -- each row is one fact about the definition
 pub record Rows : Type 0 where
@@ -76,21 +79,25 @@ rows = record {
   version_short = refl;
 }
 
+-- the limits of a search where none are given
+abbrev pub preset_search : SearchSettings
+preset_search = record {
+  limit = 1000000;
+  workers = 4;
+  in_range = record {
+    limit_within = record { from = omega (arith, ints); to = omega (arith, ints) };
+    workers_within = record { from = omega (arith, ints); to = omega (arith, ints) };
+  };
+}
+
 -- no words mean the preset settings
 abbrev pub preset : Settings
 preset = record {
   task = Ground;
   form = Sites;
-  eps = pos 56000;
-  lambda = pos 50000;
-  depth = pos 320000000000;
-  gap = pos 590000000000;
-  coulomb = pos 14399645;
-  base = 3;
-  limit = 1000000;
-  workers = 4;
-  json = false;
-  energies = false;
+  params = preset_params;
+  search = preset_search;
+  report = record { json = false; energies = false };
 }
 
 pub preset_settings : AreSettings (value_of []) preset
@@ -98,16 +105,9 @@ unfolding clap_on_literals sidb_command matches_in
 preset_settings = record {
   task = refl;
   form = refl;
-  eps = refl;
-  lambda = refl;
-  depth = refl;
-  gap = refl;
-  coulomb = refl;
-  base = refl;
-  limit = refl;
-  workers = refl;
-  json = (λ given. absurd (cc), λ e. absurd (cc));
-  energies = (λ given. absurd (cc), λ e. absurd (cc));
+  params = record { coulomb = refl; eps = refl; lam = refl; depth = refl; gap = refl; base = refl };
+  search = record { limit = refl; workers = refl };
+  report = record { json = (λ given. absurd (cc), λ e. absurd (cc)); energies = (λ given. absurd (cc), λ e. absurd (cc)) };
 }
 
 pub no_words_mean_preset : IsSettingsOf [] preset

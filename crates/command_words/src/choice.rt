@@ -1,8 +1,9 @@
 // The names that options give.
-ghost use Rattle.std.specs.Prelude.{◌≡◌, ◌⊎◌, ℕ, IfSome, IfNone};
+ghost use Rattle.std.specs.Prelude.{ℕ, ◌≤◌, IfSome, IfNone};
 ghost use Rattle.command_words.specs.declared.settings.Task.{Task};
 ghost use Rattle.command_words.specs.declared.settings.Form.{Form};
-ghost use Rattle.command_words.specs.Settings.{IsBase, IsChoice, IsGiven, form_name, task_name, text_of};
+ghost use Rattle.command_words.specs.Options.{IsBase, IsChoice, IsGiven, text_of};
+ghost use Rattle.command_words.specs.Settings.{form_name, task_name};
 
 use crate::{Form, Task};
 
@@ -37,7 +38,7 @@ pub fn form_in(given: Option<&str>) -> Option<Form>
 pub fn base_in(given: Option<&str>) -> Option<u64>
     ensures found { IfSome result (IsBase (text_of given.entry)) }
     ensures none { IfNone result ((base : ℕ) → IsBase (text_of given.entry) base → ⊥) }
-    ensures within { IfSome result (λ base. (base ≡ 2) ⊎ (base ≡ 3)) }
+    ensures within { IfSome result (λ base. (2 ≤ base) × (base ≤ 3)) }
 {
     match given {
         Some("2") => Some(2),

@@ -3,11 +3,12 @@
 
 mod choice;
 mod command;
+mod groups;
 pub mod laws;
-mod quantity;
+mod number;
 mod settings;
 mod words;
 
-pub use settings::{Form, Settings, Task};
+pub use model_params::Params;
+pub use settings::{Form, ReportSettings, SearchSettings, Settings, Task};
 pub use words::read_words;
-

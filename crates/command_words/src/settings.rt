@@ -1,3 +1,7 @@
+ghost use Rattle.command_words.specs.Limits.{AreSearchLimits};
+
+use model_params::Params;
+
 /// What a run does.
 #[derive(Clone, Copy, Debug, PartialEq, Eq)]
 pub enum Task {
@@ -18,28 +22,31 @@ pub enum Form {
     Table,
 }
 
+/// The limits of a search.
+#[derive(Clone, Copy, Debug, PartialEq, Eq)]
+pub struct SearchSettings {
+    /// The most nodes of a search.
+    pub limit: u64,
+    /// How many threads may work at once.
+    pub workers: u64,
+    ghost in_range: { AreSearchLimits limit workers },
+}
+
+/// What a report has, and how it is written.
+#[derive(Clone, Copy, Debug, PartialEq, Eq)]
+pub struct ReportSettings {
+    /// The report is one line of JSON.
+    pub json: bool,
+    /// The report has the energy of each entry.
+    pub energies: bool,
+}
+
 /// What the words of a run ask for.
 #[derive(Clone, Copy, Debug, PartialEq, Eq)]
 pub struct Settings {
     pub task: Task,
     pub form: Form,
-    /// Relative permittivity, in 10^-4.
-    pub eps: i64,
-    /// Screening length, in 10^-4 nm.
-    pub lambda: i64,
-    /// How far the upper level lies below 0, in 10^-12 V.
-    pub depth: i64,
-    /// How far the lower level lies below the upper one, in 10^-12 V.
-    pub gap: i64,
-    /// The Coulomb number, in 10^-6 V·Å.
-    pub coulomb: i64,
-    /// How many charges a site may have: 2 or 3.
-    pub base: u64,
-    /// The most nodes of a search.
-    pub limit: u64,
-    pub workers: u64,
-    /// The report is one line of JSON.
-    pub json: bool,
-    /// The report has the energy of each entry.
-    pub energies: bool,
+    pub params: Params,
+    pub search: SearchSettings,
+    pub report: ReportSettings,
 }

@@ -2,15 +2,12 @@ ghost use Rattle.std.specs.Prelude.{◌≡◌, IfOk, IfSome, IfNone, map};
 ghost use Rattle.clap.specs.Words.{first_value, found_of};
 ghost use Rattle.command_words.specs.declared.settings.Settings.{Settings};
 ghost use Rattle.command_words.specs.Command.{full_words};
-ghost use Rattle.command_words.specs.Settings.{AreInRange, AreSettings, IsSettingsOf};
+ghost use Rattle.command_words.specs.Settings.{AreSettings, IsSettingsOf};
 
 use crate::Settings;
-use crate::choice::{base_in, form_in, is_given, task_in};
+use crate::choice::{form_in, task_in};
 use crate::command::simple_command;
-use crate::quantity::{
-    COULOMB_NUMBER, LEVEL_DEPTH, LEVEL_GAP, NODE_LIMIT, PERMITTIVITY, SCREENING_LENGTH,
-    WORKER_COUNT, count_in, number_in,
-};
+use crate::groups::{params_in, report_in, search_in};
 use clap::ArgMatches;
 use clap::error::ErrorKind;
 use sidb_units::{Memory, WordList};
@@ -22,7 +19,6 @@ pub fn read_words(alloc: Global, words: &WordList) -> Result<Option<Settings>, M
     ensures found { IfOk result (λ read. IfSome read (IsSettingsOf words.now)) }
     ensures none { IfOk result (λ read. IfNone read
         ((s : Settings) → IsSettingsOf words.now s → ⊥)) }
-    ensures within { IfOk result (λ read. IfSome read AreInRange) }
 {
     let texts = full_list(alloc, words)?;
     let command = simple_command(alloc)?;
@@ -40,21 +36,13 @@ fn settings_in(matches: &ArgMatches<'_>) -> Option<Settings>
     ensures found { IfSome result (AreSettings (first_value (found_of matches.now))) }
     ensures none { IfNone result ((s : Settings)
         → AreSettings (first_value (found_of matches.now)) s → ⊥) }
-    ensures within { IfSome result AreInRange }
 {
     Some(Settings {
         task: task_in(matches.get_str("task"))?,
         form: form_in(matches.get_str("form"))?,
-        eps: number_in(matches.get_str("eps"), &PERMITTIVITY)?,
-        lambda: number_in(matches.get_str("lambda"), &SCREENING_LENGTH)?,
-        depth: number_in(matches.get_str("depth"), &LEVEL_DEPTH)?,
-        gap: number_in(matches.get_str("gap"), &LEVEL_GAP)?,
-        coulomb: number_in(matches.get_str("coulomb"), &COULOMB_NUMBER)?,
-        base: base_in(matches.get_str("base"))?,
-        limit: count_in(matches.get_str("limit"), &NODE_LIMIT)?,
-        workers: count_in(matches.get_str("workers"), &WORKER_COUNT)?,
-        json: is_given(matches.get_str("json")),
-        energies: is_given(matches.get_str("energies")),
+        params: params_in(matches)?,
+        search: search_in(matches)?,
+        report: report_in(matches),
     })
 }
 

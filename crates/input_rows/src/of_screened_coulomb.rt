@@ -1,7 +1,7 @@
 ghost use Rattle.std.specs.Prelude.{pos, ◌^◌, ◌≤◌, ◌≤ℤ◌, ◌<ℤ◌};
 
-use screened_coulomb::{Params, params_of, problem, span_of};
 use fixed_enclosure::span_between;
+use screened_coulomb::{Params, params_of, problem, span_of};
 use sidb_lattice::{Fix, LEAST_SQUARED_DISTANCE, Site, layout_with};
 use std::test::Fail;
 

@@ -2,13 +2,13 @@ ghost use Rattle.std.specs.Prelude.{◌≡◌, [], ◌∷◌, IfOk};
 ghost use Rattle.charge_model.specs.Problem.{Problem as ProblemData};
 ghost use Rattle.ground_report.specs.Subject.{AreOf};
 
-use sim_report::{About, ground_json, ground_text};
 use charge_model::{Charge, Deciding, Mark, Test, span_between};
 use charge_state::Charges;
-use potential_problem::{Levels, Problem, problem_of};
 use ground_entries::{Entry, GroundList, list_of};
+use potential_problem::{Levels, Problem, problem_of};
 use sidb_layout::{Fix, Layout, LayoutFault, Site, default_lattice, lattice_of, layout_on};
 use sidb_units::Memory;
+use sim_report::{About, ground_json, ground_text};
 use std::alloc::Global;
 use std::test::Fail;
 

@@ -1,5 +1,5 @@
-use sqd_layout::{SqdFault, read_sites, read_sqd};
 use sidb_layout::{Fix, Site};
+use sqd_layout::{SqdFault, read_sites, read_sqd};
 use std::alloc::{AllocError, Global};
 use std::test::Fail;
 

@@ -1,5 +1,5 @@
-use sqd_nesting::{MarkFault, read_marks};
 use sqd_marks::Kind;
+use sqd_nesting::{MarkFault, read_marks};
 use std::test::Fail;
 
 #[test]

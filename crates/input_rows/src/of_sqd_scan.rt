@@ -1,5 +1,5 @@
-use sqd_scan::{ScanFault, Whole, scan};
 use sqd_marks::Kind;
+use sqd_scan::{ScanFault, Whole, scan};
 
 #[test]
 fn marks_in_front(rt: HostRuntime) {

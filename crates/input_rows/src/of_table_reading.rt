@@ -1,5 +1,5 @@
-use table_reading::{LineWhy, TableFault, read_table, read_table_front};
 use std::test::Fail;
+use table_reading::{LineWhy, TableFault, read_table, read_table_front};
 
 const TWO_SITES: &str =
     "sidb-table 1\nsites 2\nbase 3\nmu -2 -590000000002\nclass 1 3\npair 0 1 0\nend\n";

@@ -7,7 +7,7 @@ use Rattle.std.proofs.lemmas.Nat.{pow_pos}
 use Rattle.root_exp.specs.declared.TheConstants.{UNIT}
 use Rattle.root_exp.specs.Root.{IsRoot}
 use Rattle.root_exp.specs.Series.{AreSized, closed_divisor, closed_sum, divisor_of, series_sum}
-use Rattle.screened_coulomb.specs.declared.params.Params.{Params}
+use Rattle.model_params.specs.declared.params.Params.{Params}
 use Rattle.screened_coulomb.specs.Potential.{Fraction, HoldsDistance, IsAtLeast, IsAtMost, bottom_of, closed_low, coulomb_of, eps_of, high_at_order, lam_of, low_at_order, top_of}
 use Rattle.screened_coulomb.specs.Rounding.{argument_up_of, hi_of, lo_of, quotient_down_of, quotient_up_of}
 use Rattle.screened_coulomb.proofs.OrderLemmas.{above_at, below_at, closed_at, roots}

@@ -13,7 +13,7 @@ use Rattle.sidb_layout.specs.declared.site.Fix.{Fix}
 use Rattle.sidb_layout.specs.Site.{IsFixInRange}
 use Rattle.sidb_layout.specs.Layout.{Arrangement, IsLayout}
 use Rattle.sidb_lattice.specs.Classes.{AreClasses, Classing, class_between, class_near, near_distance, pair_distance}
-use Rattle.screened_coulomb.specs.declared.params.Params.{Params}
+use Rattle.model_params.specs.declared.params.Params.{Params}
 use Rattle.screened_coulomb.specs.Potential.{HoldsDistance}
 use Rattle.screened_coulomb.specs.Rounding.{IsRoundedSpan}
 use Rattle.screened_coulomb.specs.Layouts.{AreClassSpans, AreSpansBelow, HoldsAt, HoldsDistances, IsClassSpan, IsProblemOf}
@@ -110,9 +110,9 @@ module _ (layout : Arrangement) (p : Params) (classes : Classing) (problem : Pro
         near = rw (parts.near_classes, parts.spans.whole) whole.near;
         few_classes = omega (arith, parts.spans.whole, whole.few_classes, pairs, nears);
         spans = λ c less. let is = parts.spans.each c (omega (arith, parts.spans.whole)) in (is.from_zero, is.in_order, is.within);
-        levels = omega (arith, ints, parts.mu_plus, parts.mu_minus, p.in_range.gap_from);
-        least_level = omega (arith, ints, parts.mu_plus, p.in_range.depth_to, p.in_range.gap_to);
-        greatest_level = omega (arith, ints, parts.mu_minus, p.in_range.depth_from);
+        levels = omega (arith, ints, parts.mu_plus, parts.mu_minus, p.in_range.gap_within.from);
+        least_level = omega (arith, ints, parts.mu_plus, p.in_range.depth_within.to, p.in_range.gap_within.to);
+        greatest_level = omega (arith, ints, parts.mu_minus, p.in_range.depth_within.from);
       }
     where
       base : (problem.base ≡ 2) ⊎ ((problem.base ≡ 2) → ⊥) → (problem.base ≡ 2) ⊎ (problem.base ≡ 3)

@@ -5,7 +5,7 @@ use Rattle.charge_model.specs.declared.span.Span.{Span}
 use Rattle.charge_model.specs.Problem.{Problem, lo_in, hi_in}
 use Rattle.sidb_layout.specs.Layout.{Arrangement}
 use Rattle.sidb_lattice.specs.Classes.{AreClasses, Classing}
-use Rattle.screened_coulomb.specs.declared.params.Params.{Params}
+use Rattle.model_params.specs.declared.params.Params.{Params}
 use Rattle.screened_coulomb.specs.Rounding.{IsRoundedSpan}
 use Rattle.screened_coulomb.specs.Layouts.{IsProblemOf}
 use Rattle.screened_coulomb.proofs.RuleLemmas.{one_span}

@@ -5,7 +5,7 @@ use Rattle.charge_model.specs.declared.span.Span.{Span}
 use Rattle.charge_model.specs.Problem.{Problem, IsProblem}
 use Rattle.sidb_layout.specs.Layout.{Arrangement, IsLayout}
 use Rattle.sidb_lattice.specs.Classes.{AreClasses, Classing, IsDistance}
-use Rattle.screened_coulomb.specs.declared.params.Params.{Params}
+use Rattle.model_params.specs.declared.params.Params.{Params}
 use Rattle.screened_coulomb.specs.Layouts.{AreClassSpans, AreSpansBelow, HoldsDistances, IsClassSpan, IsProblemOf}
 use Rattle.screened_coulomb.proofs.LayoutLemmas.{AreParts, parts_hold, parts_problem, parts_valid, span_more}
 use Rattle.screened_coulomb.proofs.SpanExists.{AreLaws, some_span}

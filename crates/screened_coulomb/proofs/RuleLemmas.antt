@@ -1,7 +1,7 @@
 -- the rounding rule gives one span
 use Rattle.std.proofs.Common.{◌≡◌, ◌∙◌, ℕ, ◌+◌, ◌*◌, ◌^◌, ◌<◌, ℤ, pos, sym, ap, arith}
 use Rattle.root_exp.specs.Root.{IsRoot}
-use Rattle.screened_coulomb.specs.declared.params.Params.{Params}
+use Rattle.model_params.specs.declared.params.Params.{Params}
 use Rattle.screened_coulomb.specs.Rounding.{IsRoundedSpan, rounded_ends}
 use Rattle.screened_coulomb.proofs.OrderLemmas.{square_lt}
 

@@ -6,19 +6,19 @@ use Rattle.std.proofs.lemmas.Bool.{cases_lt}
 use Rattle.std.proofs.lemmas.Grind.{div_ceil_times}
 use Rattle.std.specs.Int.{div_ceil}
 use Rattle.root_exp.specs.declared.TheConstants.{UNIT}
-use Rattle.screened_coulomb.specs.declared.params.Params.{Params}
+use Rattle.model_params.specs.declared.params.Params.{Params}
 use Rattle.screened_coulomb.specs.Potential.{coulomb_of, eps_of, lam_of}
 use Rattle.screened_coulomb.specs.Rounding.{argument_down_of, argument_up_of, quotient_down_of, quotient_up_of}
 use Rattle.screened_coulomb.proofs.OrderLemmas.{cancel}
 
 pub coulomb_most : (p : Params) → coulomb_of p ≤ 15000000 * 10 ^ 12
-coulomb_most p = omega (arith, ints, p.in_range.coulomb_from, p.in_range.coulomb_to)
+coulomb_most p = omega (arith, ints, p.in_range.coulomb_within.from, p.in_range.coulomb_within.to)
 
 pub eps_least : (p : Params) → 10000 ≤ eps_of p
-eps_least p = omega (arith, ints, p.in_range.eps_from)
+eps_least p = omega (arith, ints, p.in_range.eps_within.from)
 
 pub lam_least : (p : Params) → 1000 ≤ lam_of p
-lam_least p = omega (arith, ints, p.in_range.lam_from)
+lam_least p = omega (arith, ints, p.in_range.lam_within.from)
 
 -- no quotient is above this many units of 2^-23
 abbrev pub most : ℕ

@@ -8,7 +8,7 @@ use Rattle.std.proofs.Math.Nat.{le_trans, mul-le-mul, mul-le-mul_right}
 use Rattle.root_exp.specs.declared.TheConstants.{UNIT}
 use Rattle.root_exp.specs.Root.{IsRoot}
 use Rattle.root_exp.specs.Series.{AreSized, bits_for, closed_divisor, closed_sum, divisor_of, series_sum, sum_to, term_down, term_up}
-use Rattle.screened_coulomb.specs.declared.params.Params.{Params}
+use Rattle.model_params.specs.declared.params.Params.{Params}
 use Rattle.screened_coulomb.specs.Potential.{HoldsDistance, lam_of}
 use Rattle.screened_coulomb.specs.Rounding.{Ends, argument_down_of, argument_up_of, down_of, far, far_ends, hi_of, lo_of, near_ends, quotient_down_of, quotient_up_of, rounded_ends, up_of}
 use Rattle.screened_coulomb.specs.Layouts.{IsClassSpan}

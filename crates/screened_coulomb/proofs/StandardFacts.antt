@@ -1,46 +1,43 @@
 -- spans worked by hand: neighbours along a row, the second neighbours, and a pair far apart
-use Rattle.std.proofs.Common.{◌*◌, ◌^◌, ℤ, pos, ◌≤ℤ◌, refl, arith}
+use Rattle.std.proofs.Common.{◌*◌, ◌^◌, ℤ, pos, refl, arith}
 use Rattle.std.proofs.lemmas.Int.{ints}
 use Rattle.root_exp.specs.Series.{divisor_of, series_sum, sum_to, term_down, term_up}
-use Rattle.screened_coulomb.specs.declared.params.Params.{Params}
-use Rattle.screened_coulomb.specs.Ranges.{AreInRange}
+use Rattle.model_params.specs.declared.params.Params.{Params}
+use Rattle.model_params.specs.Quantities.{IsWithin, screening_length}
+use Rattle.model_params.specs.Params.{AreInRange}
 use Rattle.screened_coulomb.specs.Potential.{HoldsOrder}
 use Rattle.screened_coulomb.specs.Rounding.{IsRoundedSpan}
 
-pub usual_in_range : (lam : ℤ) → pos 1000 ≤ℤ lam → lam ≤ℤ pos 10000000 → AreInRange (pos 14399645) (pos 56000) lam (pos 320000000000) (pos 590000000000) 3
-usual_in_range lam from to = record {
-  coulomb_from = omega (arith, ints);
-  coulomb_to = omega (arith, ints);
-  eps_from = omega (arith, ints);
-  eps_to = omega (arith, ints);
-  lam_from = from;
-  lam_to = to;
-  depth_from = omega (arith, ints);
-  depth_to = omega (arith, ints);
-  gap_from = omega (arith, ints);
-  gap_to = omega (arith, ints);
+-- usual parameters with any screening length
+pub usual_in_range : (lam : ℤ) → IsWithin screening_length lam → AreInRange (pos 14399645) (pos 56000) lam (pos 320000000000) (pos 590000000000) 3
+usual_in_range lam within = record {
+  coulomb_within = record { from = omega (arith, ints); to = omega (arith, ints) };
+  eps_within = record { from = omega (arith, ints); to = omega (arith, ints) };
+  lam_within = within;
+  depth_within = record { from = omega (arith, ints); to = omega (arith, ints) };
+  gap_within = record { from = omega (arith, ints); to = omega (arith, ints) };
   base_from = omega arith;
   base_to = omega arith;
 }
 
 -- the usual parameters with this screening length
-abbrev pub with_lam : (lam : ℤ) → pos 1000 ≤ℤ lam → lam ≤ℤ pos 10000000 → Params
-with_lam lam from to = record {
+abbrev pub with_lam : (lam : ℤ) → IsWithin screening_length lam → Params
+with_lam lam within = record {
   coulomb = pos 14399645;
   eps = pos 56000;
   lam = lam;
   depth = pos 320000000000;
   gap = pos 590000000000;
   base = 3;
-  in_range = usual_in_range lam from to;
+  in_range = usual_in_range lam within;
 }
 
 -- a screening length of 5 nm, and one of 0.1 nm
 abbrev pub usual : Params
-usual = with_lam (pos 50000) (omega (arith, ints)) (omega (arith, ints))
+usual = with_lam (pos 50000) (record { from = omega (arith, ints); to = omega (arith, ints) })
 
 abbrev pub screened : Params
-screened = with_lam (pos 1000) (omega (arith, ints)) (omega (arith, ints))
+screened = with_lam (pos 1000) (record { from = omega (arith, ints); to = omega (arith, ints) })
 
 neighbours : IsRoundedSpan usual (384 * 384) (pos 620124254312) (pos 620124254313)
 unfolding sum_to term_down term_up

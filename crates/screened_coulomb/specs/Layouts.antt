@@ -5,7 +5,7 @@ use Rattle.charge_model.specs.declared.span.Span.{Span}
 use Rattle.charge_model.specs.Problem.{Problem, class_of, near_class_of, lo_in, hi_in}
 use Rattle.sidb_lattice.specs.Layout.{Arrangement}
 use Rattle.sidb_lattice.specs.Classes.{AreClasses, Classing, near_distance, pair_distance}
-use Rattle.screened_coulomb.specs.declared.params.Params.{Params}
+use Rattle.model_params.specs.declared.params.Params.{Params}
 use Rattle.screened_coulomb.specs.Potential.{HoldsDistance}
 use Rattle.screened_coulomb.specs.Rounding.{IsRoundedSpan}
 

@@ -1,4 +1,3 @@
-pub mod Ranges
 pub mod Potential
 pub mod Rounding
 pub mod Layouts

@@ -3,7 +3,7 @@ use Rattle.std.specs.Prelude.{ℕ, suc, ◌+◌, ◌*◌, ◌^◌, ◌≤◌, �
 use Rattle.root_exp.specs.declared.TheConstants.{ORDER}
 use Rattle.root_exp.specs.Root.{IsRoot}
 use Rattle.root_exp.specs.Series.{closed_divisor, closed_sum, divisor_of, series_sum}
-use Rattle.screened_coulomb.specs.declared.params.Params.{Params}
+use Rattle.model_params.specs.declared.params.Params.{Params}
 
 -- K·10^12, K being in 10^-6 V·Å
 abbrev pub coulomb_of : Params → ℕ

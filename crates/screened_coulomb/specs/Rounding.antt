@@ -4,7 +4,7 @@ use Rattle.std.specs.Int.{div_ceil}
 use Rattle.root_exp.specs.declared.TheConstants.{ORDER, UNIT}
 use Rattle.root_exp.specs.Root.{IsRoot}
 use Rattle.root_exp.specs.Series.{bits_for, sum_to, term_down, term_up}
-use Rattle.screened_coulomb.specs.declared.params.Params.{Params}
+use Rattle.model_params.specs.declared.params.Params.{Params}
 use Rattle.screened_coulomb.specs.Potential.{coulomb_of, eps_of, lam_of}
 
 -- the argument 10·√D / lam at the root of 40 bits, in units of 2^-60, rounded down

@@ -1,7 +1,7 @@
 ghost use Rattle.std.specs.Prelude.{◌≡◌, ◌≤◌, ℕ, ℤ};
 ghost use Rattle.charge_model.specs.Problem.{Problem, IsProblem};
 ghost use Rattle.sidb_layout.specs.Layout.{Arrangement, IsLayout};
-ghost use Rattle.screened_coulomb.specs.declared.params.Params.{Params};
+ghost use Rattle.model_params.specs.declared.params.Params.{Params};
 ghost use Rattle.screened_coulomb.specs.Layouts.{HoldsDistances, IsClassSpan, IsProblemOf};
 ghost use Rattle.screened_coulomb.specs.Rounding.{IsRoundedSpan};
 

@@ -1,7 +1,6 @@
 // Reads what the task of the settings reads.
 ghost use Rattle.std.specs.Prelude.{◌≡◌, ◌≤◌, length};
 ghost use Rattle.std.specs.Io.KnownBytes.{IsAtEnd};
-ghost use Rattle.command_words.specs.Settings.{AreInRange};
 ghost use Rattle.sidb_io.specs.Outside.{HasFault};
 ghost use Rattle.sim_cli.specs.Answer.{input_limit};
 ghost use Rattle.sim_cli.specs.Reading.{IsAnswerable, IsReadFor, IsReadingOf, IsToTheEnd};
@@ -31,7 +30,6 @@ pub enum Reading {
 
 /// Reads the input whole, and what it means.
 pub fn read_for<S: Source>(alloc: Global, settings: &Settings, source: &mut S) -> Reading
-    requires { AreInRange settings.now }
     ensures means { ForBytesLeft (S.left source.old) (IsReadingOf settings.now result) }
     ensures task { IsReadFor settings.now.task result }
     ensures end { IsToTheEnd result → IsAtEnd (S.left source.new) }
@@ -62,7 +60,6 @@ fn input_limit(task: Task) -> usize
 
 /// What the bytes of the input mean.
 fn reading_of(alloc: Global, settings: &Settings, bytes: Vec<u8>) -> Reading
-    requires { AreInRange settings.now }
     ensures means { IsReadingOf settings.now result bytes.items }
     ensures task { IsReadFor settings.now.task result }
     ensures answerable { IsAnswerable result }

@@ -1,12 +1,11 @@
 ghost use Rattle.std.specs.Prelude.{IfOk};
 ghost use Rattle.charge_model.specs.GroundList.{IsMarkedGroundList};
-ghost use Rattle.command_words.specs.Settings.{AreInRange};
 ghost use Rattle.ground_state.specs.Answer.{IsWithinBudget};
 ghost use Rattle.run_answer.specs.Due.{DueIs};
 ghost use Rattle.task_ground.specs.GroundAnswer.{IsGroundAnswer};
 
 use crate::report::report_of;
-use command_words::Settings;
+use command_words::{SearchSettings, Settings};
 use ground_report::About;
 use ground_state::{SolveAnswer, solve};
 use potential_problem::Problem;
@@ -26,10 +25,9 @@ pub fn ground_answer<R: Threads + Sync, G: Gate>(
     problem: &Problem,
     gate: &G,
 ) -> Result<Due, Memory>
-    requires { AreInRange settings.now }
     ensures { IfOk result (DueIs (IsGroundAnswer settings.now about.now problem.now)) }
 {
-    let Settings { limit, workers, .. } = *settings;
+    let SearchSettings { limit, workers, .. } = settings.search;
     match solve(rt, alloc, problem, limit, workers, gate) {
         SolveAnswer::List(solved) => list_due(alloc, settings, about, problem, &solved.list),
         SolveAnswer::Budget => budget_due(alloc, limit),
@@ -46,7 +44,7 @@ fn list_due(
     problem: &Problem,
     list: &GroundList,
 ) -> Result<Due, Memory>
-    requires budget { IsWithinBudget problem.now settings.now.limit }
+    requires budget { IsWithinBudget problem.now settings.now.search.limit }
     requires list { IsMarkedGroundList problem.now list.now }
     ensures { IfOk result (DueIs (IsGroundAnswer settings.now about.now problem.now)) }
 {

@@ -23,9 +23,9 @@ pub fn report_of(
     ensures { IfOk result (λ text. IsReport settings.now about.now problem.now list.now
         (string_bytes text)) }
 {
-    if settings.json {
-        ground_json(alloc, about, problem, list, settings.energies)
+    if settings.report.json {
+        ground_json(alloc, about, problem, list, settings.report.energies)
     } else {
-        ground_text(alloc, about, problem, list, settings.energies)
+        ground_text(alloc, about, problem, list, settings.report.energies)
     }
 }

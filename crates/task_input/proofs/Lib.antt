@@ -1,4 +1,6 @@
 pub mod OneInput
+pub mod Named
+pub mod SomeInput
 pub mod Told
 mod StandardFacts
 mod Refusals

@@ -5,7 +5,7 @@ use Rattle.charge_model.specs.Problem.{Problem}
 use Rattle.sidb_layout.specs.Layout.{Arrangement}
 use Rattle.table_reading.specs.declared.fault.TableFault.TheVariants.{Memory as NoMemoryForTable}
 use Rattle.table_reading.specs.Reading.{IsTableText, IsTableFault}
-use Rattle.screened_coulomb.specs.declared.params.Params.{Params}
+use Rattle.model_params.specs.declared.params.Params.{Params}
 use Rattle.screened_coulomb.specs.Layouts.{IsProblemOf, HoldsDistances}
 use Rattle.sqd_layout.specs.declared.fault.SqdFault.TheVariants.{Memory as NoMemoryForLayout}
 use Rattle.sqd_layout.specs.SitesFaults.{IsSitesText, IsSitesFault}
@@ -17,27 +17,14 @@ use Rattle.fault_lines.specs.declared.input_fault.InputFault.{InputFault}
 use Rattle.fault_lines.specs.declared.input_fault.InputFault.TheVariants.{TooLong, Layout, Table}
 use Rattle.ground_report.specs.declared.about.About.{About}
 
--- the parameters of the potentials and of the levels are those of the settings
-pub record AreParamsOf (s : Settings) (p : Params) : Type 0 where
-  pub coulomb : p.coulomb ≡ s.coulomb
-  pub eps : p.eps ≡ s.eps
-  pub lam : p.lam ≡ s.lambda
-  pub depth : p.depth ≡ s.depth
-  pub gap : p.gap ≡ s.gap
-  pub base : p.base ≡ s.base
-
--- the problem of a layout by the settings: the span of each class holds the distance of its pairs
-pub record IsOfLayout (s : Settings) (layout : Arrangement) (p : Problem) : Type 0 where
-  pub params : Params
-  pub of_settings : AreParamsOf s params
+-- the problem of a layout by the parameters: the span of each class holds the distance of its pairs
+pub record IsOfLayout (params : Params) (layout : Arrangement) (p : Problem) : Type 0 where
   pub problem : IsProblemOf layout params p
   pub holds : HoldsDistances layout params p
 
--- that part of it on its own
-pub record HoldsDistancesBy (s : Settings) (layout : Arrangement) (p : Problem) : Type 0 where
-  pub params : Params
-  pub of_settings : AreParamsOf s params
-  pub holds : HoldsDistances layout params p
+-- the span of each class holds the distance of its pairs, by the parameters of the settings
+abbrev pub HoldsDistancesBy : Settings → Arrangement → Problem → Type 0
+HoldsDistancesBy s layout p = HoldsDistances layout s.params p
 
 -- what is told of a layout, and how much of its text was skipped
 abbrev pub about_layout : Arrangement → ℕ → About
@@ -48,18 +35,20 @@ abbrev pub about_no_layout : About
 about_no_layout = record { layout = None; skipped = 0 }
 
 -- the bytes are a sites text, of which nothing is skipped
-pub record MeansSites (s : Settings) (bytes : List ℕ) (p : Problem) (about : About) : Type 0 where
+pub record MeansSites (params : Params) (bytes : List ℕ) (p : Problem) (about : About)
+    : Type 0 where
   pub layout : Arrangement
   pub text : IsSitesText bytes layout
-  pub gives : IsOfLayout s layout p
+  pub gives : IsOfLayout params layout p
   pub told : about ≡ about_layout layout 0
 
 -- the bytes are a text in the manner of SiQAD, of which so many items are skipped
-pub record MeansSqd (s : Settings) (bytes : List ℕ) (p : Problem) (about : About) : Type 0 where
+pub record MeansSqd (params : Params) (bytes : List ℕ) (p : Problem) (about : About)
+    : Type 0 where
   pub layout : Arrangement
   pub skipped : ℕ
   pub text : IsSqdText bytes layout skipped
-  pub gives : IsOfLayout s layout p
+  pub gives : IsOfLayout params layout p
   pub told : about ≡ about_layout layout skipped
 
 -- the bytes are a table text
@@ -68,15 +57,15 @@ pub record MeansTable (bytes : List ℕ) (p : Problem) (about : About) : Type 0 
   pub told : about ≡ about_no_layout
 
 -- what the bytes mean in a form
-abbrev pub Means : Form → Settings → List ℕ → Problem → About → Type 0
-Means SitesForm s bytes p about = MeansSites s bytes p about
-Means SqdForm s bytes p about = MeansSqd s bytes p about
-Means TableForm s bytes p about = MeansTable bytes p about
+abbrev pub Means : Form → Params → List ℕ → Problem → About → Type 0
+Means SitesForm params bytes p about = MeansSites params bytes p about
+Means SqdForm params bytes p about = MeansSqd params bytes p about
+Means TableForm params bytes p about = MeansTable bytes p about
 
 -- there are few enough bytes, and this is what they mean
 pub record IsInput (s : Settings) (bytes : List ℕ) (p : Problem) (about : About) : Type 0 where
   pub short : length bytes ≤ MAX_INPUT_BYTES
-  pub means : Means s.form s bytes p about
+  pub means : Means s.form s.params bytes p about
 
 -- why bytes are refused in a form: there are too many, or by the first fault of their text
 abbrev pub IsInputFault : Form → List ℕ → InputFault → Type 0

@@ -1,14 +1,17 @@
 //! What holds of every input: it has one meaning, or one fault.
-ghost use Rattle.std.specs.Prelude.{◌≡◌, ℕ, List, Some};
-ghost use Rattle.charge_model.specs.Problem.{Problem as ProblemData};
+ghost use Rattle.std.specs.Prelude.{◌≡◌, ◌⊎◌, ℕ, List, Some};
+ghost use Rattle.charge_model.specs.Problem.{Problem as ProblemData, IsProblem};
 ghost use Rattle.command_words.specs.declared.settings.Form.{Form};
 ghost use Rattle.command_words.specs.declared.settings.Settings.{Settings};
 ghost use Rattle.fault_lines.specs.declared.input_fault.InputFault.{InputFault};
+ghost use Rattle.fault_lines.specs.FaultLines.{IsNamed};
 ghost use Rattle.ground_report.specs.declared.about.About.{About as AboutData};
 ghost use Rattle.sidb_layout.specs.Layout.{Arrangement};
 ghost use Rattle.task_input.specs.Input.{HoldsDistancesBy, IsInput, IsInputFault};
 
+use drawing_laws::laws::each_text_is_drawn;
 use screened_coulomb::laws as layout_problems;
+use sites_laws::laws::each_sites_text_is_read;
 
 /// By the same settings the same bytes mean one problem, of which one thing is told.
 pub fn one_input()
@@ -39,6 +42,18 @@ pub fn no_fault()
     sqd_layout::laws::no_fault();
     sqd_layout::laws::no_sqd_fault();
     potential_table::laws::no_fault();
+}
+
+/// By all settings each input means a problem, or has a first fault, which is not want of memory.
+pub fn some_input()
+    ensures { (s : Settings) (bytes : List ℕ)
+        → ((p : ProblemData) × (a : AboutData) × IsInput s bytes p a × IsProblem p)
+        ⊎ ((f : InputFault) × IsInputFault s.form bytes f × IsNamed f) }
+{
+    each_sites_text_is_read();
+    each_text_is_drawn();
+    potential_table::laws::each_text_is_read();
+    layout_problems::each_layout_has_a_problem();
 }
 
 /// Where an input has a layout, the span of each class holds the distance of its pairs.

@@ -1,5 +1,4 @@
 ghost use Rattle.std.specs.Prelude.{◌≡◌, ◌⊎◌, IfOk, IfErr};
-ghost use Rattle.command_words.specs.Settings.{AreInRange};
 ghost use Rattle.ground_report.specs.Subject.{IsAbout};
 ghost use Rattle.table_reading.specs.Reading.{IsTableFault};
 ghost use Rattle.sqd_layout.specs.SitesFaults.{IsSitesFault};
@@ -11,6 +10,7 @@ use crate::{About, Input};
 use command_words::{Form, Settings};
 use fault_lines::InputFault;
 use potential_table::{TableFault, read_table};
+use screened_coulomb::Params;
 use sidb_units::MAX_INPUT_BYTES;
 use sqd_layout::{SqdFault, read_sites, read_sqd};
 use std::alloc::Global;
@@ -18,7 +18,6 @@ use std::alloc::Global;
 /// What the bytes mean in the form that the settings name, or why they are refused: by their first
 /// fault, or for want of memory.
 pub fn read_input(alloc: Global, settings: &Settings, bytes: &[u8]) -> Result<Input, InputFault>
-    requires { AreInRange settings.now }
     ensures found { IfOk result (λ input.
         IsInput settings.now bytes.now input.problem input.about) }
     ensures sites { IfOk result (λ input. IsAbout input.about input.problem) }
@@ -29,11 +28,11 @@ pub fn read_input(alloc: Global, settings: &Settings, bytes: &[u8]) -> Result<In
         return Err(InputFault::TooLong);
     }
     match settings.form {
-        Form::Sites => match sites_input(alloc, settings, bytes) {
+        Form::Sites => match sites_input(alloc, &settings.params, bytes) {
             Ok(input) => Ok(input),
             Err(fault) => Err(InputFault::Layout(fault)),
         },
-        Form::Sqd => match sqd_input(alloc, settings, bytes) {
+        Form::Sqd => match sqd_input(alloc, &settings.params, bytes) {
             Ok(input) => Ok(input),
             Err(fault) => Err(InputFault::Layout(fault)),
         },
@@ -45,29 +44,27 @@ pub fn read_input(alloc: Global, settings: &Settings, bytes: &[u8]) -> Result<In
 }
 
 /// The input of a sites text, of which nothing is skipped.
-fn sites_input(alloc: Global, settings: &Settings, bytes: &[u8]) -> Result<Input, SqdFault>
-    requires { AreInRange settings.now }
+fn sites_input(alloc: Global, params: &Params, bytes: &[u8]) -> Result<Input, SqdFault>
     ensures found { IfOk result (λ input.
-        MeansSites settings.now bytes.now input.problem input.about) }
+        MeansSites params.now bytes.now input.problem input.about) }
     ensures sites { IfOk result (λ input. IsAbout input.about input.problem) }
     ensures fault { IfErr result (λ fault.
         (fault ≡ SqdFault.Memory) ⊎ IsSitesFault bytes.now fault) }
 {
     let found = read_sites(alloc, bytes)?;
-    Ok(layout_input(alloc, settings, found)?)
+    Ok(layout_input(alloc, params, found)?)
 }
 
 /// The input of a text in the manner of SiQAD.
-fn sqd_input(alloc: Global, settings: &Settings, bytes: &[u8]) -> Result<Input, SqdFault>
-    requires { AreInRange settings.now }
+fn sqd_input(alloc: Global, params: &Params, bytes: &[u8]) -> Result<Input, SqdFault>
     ensures found { IfOk result (λ input.
-        MeansSqd settings.now bytes.now input.problem input.about) }
+        MeansSqd params.now bytes.now input.problem input.about) }
     ensures sites { IfOk result (λ input. IsAbout input.about input.problem) }
     ensures fault { IfErr result (λ fault.
         (fault ≡ SqdFault.Memory) ⊎ IsSqdFault bytes.now fault) }
 {
     let found = read_sqd(alloc, bytes)?;
-    Ok(layout_input(alloc, settings, found)?)
+    Ok(layout_input(alloc, params, found)?)
 }
 
 /// The input of a table text, which has no layout.

@@ -43,5 +43,4 @@ returns c =
         | inl memory ↦ absurd (c.in_default.not-OutOfMemory (c.kind.ensures ∙ memory))
         | inr among ↦ among
       ];
-      within = tt;
     }

@@ -5,7 +5,7 @@ pub returns-clause-one : goal.returns-clause-one
 returns-clause-one c = λ s about p es. same_report (record {
   text = c.one_ground_text.ensures;
   json = c.one_ground_json.ensures;
-}) s.json s.energies about p es
+}) s.report.json s.report.energies about p es
 
 pub returns-clause-some : goal.returns-clause-some
-returns-clause-some c = λ s about p es valid. some_report c.energies_have_extremes.ensures p valid s.json s.energies about es
+returns-clause-some c = λ s about p es valid. some_report c.energies_have_extremes.ensures p valid s.report.json s.report.energies about es

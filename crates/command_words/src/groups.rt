@@ -1,0 +1,50 @@
+// The groups of settings that the matches of clap have.
+ghost use Rattle.std.specs.Prelude.{IfSome, IfNone};
+ghost use Rattle.clap.specs.Words.{first_value, found_of};
+ghost use Rattle.model_params.specs.declared.params.Params.{Params};
+ghost use Rattle.command_words.specs.declared.settings.SearchSettings.{SearchSettings};
+ghost use Rattle.command_words.specs.Settings.{AreParams, AreReportSettings, AreSearchSettings};
+
+use crate::choice::{base_in, is_given};
+use crate::number::{NODE_LIMIT, WORKER_COUNT, count_in, number_in};
+use crate::{Params, ReportSettings, SearchSettings};
+use clap::ArgMatches;
+use model_params::{COULOMB_NUMBER, LEVEL_DEPTH, LEVEL_GAP, PERMITTIVITY, SCREENING_LENGTH};
+
+/// The parameters of potentials and levels.
+pub fn params_in(matches: &ArgMatches<'_>) -> Option<Params>
+    ensures found { IfSome result (AreParams (first_value (found_of matches.now))) }
+    ensures none { IfNone result ((p : Params)
+        → AreParams (first_value (found_of matches.now)) p → ⊥) }
+{
+    Some(Params {
+        coulomb: number_in(matches.get_str("coulomb"), &COULOMB_NUMBER)?,
+        eps: number_in(matches.get_str("eps"), &PERMITTIVITY)?,
+        lam: number_in(matches.get_str("lambda"), &SCREENING_LENGTH)?,
+        depth: number_in(matches.get_str("depth"), &LEVEL_DEPTH)?,
+        gap: number_in(matches.get_str("gap"), &LEVEL_GAP)?,
+        base: base_in(matches.get_str("base"))?,
+    })
+}
+
+/// The limits of the search.
+pub fn search_in(matches: &ArgMatches<'_>) -> Option<SearchSettings>
+    ensures found { IfSome result (AreSearchSettings (first_value (found_of matches.now))) }
+    ensures none { IfNone result ((s : SearchSettings)
+        → AreSearchSettings (first_value (found_of matches.now)) s → ⊥) }
+{
+    Some(SearchSettings {
+        limit: count_in(matches.get_str("limit"), &NODE_LIMIT)?,
+        workers: count_in(matches.get_str("workers"), &WORKER_COUNT)?,
+    })
+}
+
+/// The settings of the report.
+pub fn report_in(matches: &ArgMatches<'_>) -> ReportSettings
+    ensures { AreReportSettings (first_value (found_of matches.now)) result }
+{
+    ReportSettings {
+        json: is_given(matches.get_str("json")),
+        energies: is_given(matches.get_str("energies")),
+    }
+}

@@ -1,0 +1,57 @@
+// The numbers that options give.
+ghost use Rattle.std.specs.Prelude.{◌≡◌, ◌≤◌, ◌≤ℤ◌, ℕ, ℤ, pos, IfSome, IfNone};
+ghost use Rattle.model_params.specs.Quantities.{IsWithin};
+ghost use Rattle.command_words.specs.Options.{IsNumber, text_of};
+
+use model_params::Quantity;
+use sidb_units::read_dec;
+
+/// The most nodes of a search.
+pub const NODE_LIMIT: Quantity = Quantity {
+    places: 0,
+    least: 1,
+    greatest: 10_000_000,
+    preset: 1_000_000,
+};
+
+/// The number of workers.
+pub const WORKER_COUNT: Quantity = Quantity {
+    places: 0,
+    least: 1,
+    greatest: 16,
+    preset: 4,
+};
+
+/// The number that the text gives, or the preset one where there is no text.
+pub fn number_in(given: Option<&str>, quantity: &Quantity) -> Option<i64>
+    requires places { quantity.now.places ≤ 12 }
+    requires least { pos 0 ≤ℤ quantity.now.least }
+    requires preset { IsWithin quantity.now quantity.now.preset }
+    ensures found { IfSome result (IsNumber quantity.now (text_of given.entry)) }
+    ensures none { IfNone result ((v : ℤ) → IsNumber quantity.now (text_of given.entry) v → ⊥) }
+    ensures within { IfSome result (IsWithin quantity.now) }
+{
+    match given {
+        Some(text) => read_dec(
+            text.as_bytes(),
+            quantity.places,
+            quantity.least,
+            quantity.greatest,
+        )
+        .ok(),
+        None => Some(quantity.preset),
+    }
+}
+
+/// The same for a number that is counted, and so has no sign.
+pub fn count_in(given: Option<&str>, quantity: &Quantity) -> Option<u64>
+    requires places { quantity.now.places ≤ 12 }
+    requires least { pos 0 ≤ℤ quantity.now.least }
+    requires preset { IsWithin quantity.now quantity.now.preset }
+    ensures found { IfSome result (λ n. IsNumber quantity.now (text_of given.entry) (pos n)) }
+    ensures none { IfNone result ((n : ℕ)
+        → IsNumber quantity.now (text_of given.entry) (pos n) → ⊥) }
+    ensures within { IfSome result (λ n. IsWithin quantity.now (pos n)) }
+{
+    Some(number_in(given, quantity)? as u64)
+}

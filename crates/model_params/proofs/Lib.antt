@@ -1,0 +1,3 @@
+pub mod OneParams
+pub mod StandardFacts
+mod Refusals
