@@ -1,26 +1,36 @@
 -- what `check` answers for all bytes: one thing, some thing, and the ground list
-use Rattle.std.proofs.Common.{◌≡◌, ◌∙◌, ◌≤◌, ◌<◌, ◌⊎◌, inl, inr, sym, ap, subst, refl, ℕ, ℤ, pos, List, length}
+use Rattle.std.proofs.Common.{◌≡◌, ◌≢◌, ◌∙◌, ◌≤◌, ◌<◌, ◌⊎◌, inl, inr, sym, ap, subst, refl, ℕ, suc, ℤ, pos, ◌≤ℤ◌, List, [], ◌∷◌, length, arith}
+use Rattle.std.proofs.lemmas.Int.{ints}
 use Rattle.std.proofs.lemmas.Bool.{cases_lt}
+use Rattle.std.proofs.lemmas.List.Elements.{All-nil, All-cons}
 use Rattle.charge_model.specs.Problem.{Problem, IsProblem}
+use Rattle.charge_model.specs.Rules.{IsChargeList}
 use Rattle.charge_model.specs.GroundList.{Entry, IsMarkedGroundList}
 use Rattle.sidb_units.specs.declared.TheConstants.{MAX_CERTIFICATE_BYTES}
 use Rattle.command_words.specs.declared.settings.Settings.{Settings}
 use Rattle.fault_lines.specs.declared.input_fault.InputFault.{InputFault}
 use Rattle.fault_lines.specs.declared.input_fault.InputFault.TheVariants.{TooLong, Layout, Table, Text}
-use Rattle.fault_lines.specs.FaultLines.{input_line}
+use Rattle.fault_lines.specs.FaultLines.{IsNamed, input_line}
+use Rattle.fault_lines.specs.CertificateLines.{certificate_fault_line}
 use Rattle.ground_report.specs.declared.about.About.{About}
+use Rattle.ground_report.specs.Subject.{AreOf}
 use Rattle.certificate_model.specs.declared.token.Token.{Token}
 use Rattle.certificate_model.specs.declared.refusal.CertRefusal.{CertRefusal}
+use Rattle.certificate_model.specs.declared.refusal.CertRefusal.TheVariants as refusal
+use Rattle.certificate_check.specs.Checking.{IsNoCertificate}
 use Rattle.certificate_model.specs.Certificates.{FitsProblem, IsSound, IsRefusal}
 use Rattle.certificate_reading.specs.declared.fault.CertText.{CertText}
 use Rattle.certificate_reading.specs.Texts.{IsCertText, IsCertFault}
 use Rattle.run_answer.specs.declared.status.Status.{Status}
 use Rattle.run_answer.specs.declared.status.Status.TheVariants.{Answered, Input, Certificate}
+use Rattle.run_answer.specs.declared.due.Due.{Due}
+use Rattle.run_answer.specs.Due.{DueIs}
 use Rattle.run_answer.specs.Status.{IsFaultAnswer, IsUnsoundAnswer}
 use Rattle.task_ground.specs.GroundAnswer.{IsReport}
 use Rattle.task_ground.specs.Told.{HoldsUnderEachTable}
-use Rattle.task_certificate.specs.CheckAnswer.{IsCertificateVerdict, IsCheckAnswer, IsTextFault, IsTextRefusal, IsVerdict, about_certificate}
+use Rattle.task_certificate.specs.CheckAnswer.{IsCertificateVerdict, IsCheckAnswer, IsReportAnswer, IsTextFault, IsTextRefusal, IsVerdict, about_certificate}
 use Rattle.task_certificate.specs.Told.{TellsCheckedList}
+use Rattle.task_certificate.proofs.Named.{refusal_named, text_named, too_long_named}
 
 -- each part of an answer is one
 pub record PartsAreOne : Type 0 where
@@ -57,12 +67,12 @@ module _ (one : PartsAreOne) (s : Settings) (bytes : List ℕ) where
   not_refused p es ts (Table fault) short means f = f
 
   same_verdict : (p : Problem) (es : List Entry) (ts : List Token) (a b : Status) (t u : List ℕ) → IsVerdict s p es ts a t → IsVerdict s p es ts b u → (a ≡ b) × (t ≡ u)
-  same_verdict p es ts a b t u (inl x) (inl y) = (x.0 ∙ sym y.0, one.report s about_certificate p es t u x.2 y.2)
-  same_verdict p es ts a b t u (inl x) (inr y) = absurd (one.apart p (pos 0) es ts y.0 x.1 y.1)
-  same_verdict p es ts a b t u (inr x) (inl y) = absurd (one.apart p (pos 0) es ts x.0 y.1 x.1)
+  same_verdict p es ts a b t u (inl x) (inl y) = (x.1.0 ∙ sym y.1.0, one.report s about_certificate p es t u x.1.1 y.1.1)
+  same_verdict p es ts a b t u (inl x) (inr y) = absurd (one.apart p (pos 0) es ts y.0 x.0 y.1)
+  same_verdict p es ts a b t u (inr x) (inl y) = absurd (one.apart p (pos 0) es ts x.0 y.0 x.1)
   same_verdict p es ts a b t u (inr x) (inr y) =
       let same = one.refusal p (pos 0) es ts x.0 y.0 x.1 y.1 in
-      (x.2.status_is ∙ ap Certificate same ∙ sym y.2.status_is, x.2.prints ∙ ap certificate_line same ∙ sym y.2.prints)
+      (x.2.status_is ∙ ap Certificate same ∙ sym y.2.status_is, x.2.prints ∙ ap certificate_fault_line same ∙ sym y.2.prints)
 
   -- the verdict on a certificate that is another's
   moved : (p q : Problem) (es fs : List Entry) (ts us : List Token) (a : Status) (t : List ℕ) → p ≡ q → es ≡ fs → ts ≡ us → IsVerdict s p es ts a t → IsVerdict s q fs us a t
@@ -81,7 +91,7 @@ module _ (one : PartsAreOne) (s : Settings) (bytes : List ℕ) where
 pub record HasParts : Type 0 where
   pub read : (text : List ℕ) → ((p : Problem) × (es : List Entry) × (ts : List Token) × IsCertText p es ts text) ⊎ ((f : CertText) × IsCertFault text f)
   pub fits : (text : List ℕ) (p : Problem) (es : List Entry) (ts : List Token) → IsCertText p es ts text → FitsProblem p es
-  pub verdict : (p : Problem) (window : ℤ) (es : List Entry) (tokens : List Token) → IsProblem p → FitsProblem p es → IsSound p window es tokens ⊎ ((r : CertRefusal) × IsRefusal p window es tokens r)
+  pub verdict : (p : Problem) (window : ℤ) (es : List Entry) (tokens : List Token) → IsProblem p → pos 0 ≤ℤ window → FitsProblem p es → IsSound p window es tokens ⊎ ((r : CertRefusal) × IsRefusal p window es tokens r)
   pub report : (s : Settings) (about : About) (p : Problem) (es : List Entry) → IsProblem p → (text : List ℕ) × IsReport s about p es text
 
 -- some status and text are the answer
@@ -93,16 +103,16 @@ module _ (laws : HasParts) (s : Settings) (bytes : List ℕ) where
   of_fault f refuses named = (Input f, input_line f, inl (record { fault = f; refuses = refuses; tells = record { named = named; status_is = refl; prints = refl } }))
 
   of_certificate : length bytes ≤ MAX_CERTIFICATE_BYTES → (p : Problem) (es : List Entry) (ts : List Token) → IsCertText p es ts bytes → HasAnswer s bytes
-  of_certificate short p es ts means = by (laws.verdict p (pos 0) es ts means.front.of.problem (laws.fits bytes p es ts means))
+  of_certificate short p es ts means = by (laws.verdict p (pos 0) es ts means.front.of.problem (omega (arith, ints)) (laws.fits bytes p es ts means))
     where
-      with : (status : Status) (text : List ℕ) → IsVerdict s p es ts status text → HasAnswer s bytes
-      with status text is = (status, text, inr (record { problem = p; entries = es; tokens = ts; short = short; means = means; verdict = is }))
+      given : (status : Status) (text : List ℕ) → IsVerdict s p es ts status text → HasAnswer s bytes
+      given status text is = (status, text, inr (record { problem = p; entries = es; tokens = ts; short = short; means = means; verdict = is }))
 
       by : IsSound p (pos 0) es ts ⊎ ((r : CertRefusal) × IsRefusal p (pos 0) es ts r) → HasAnswer s bytes
       by (inl sound) =
           let report = laws.report s about_certificate p es means.front.of.problem in
-          with Answered report.0 (inl (refl, sound, report.1))
-      by (inr (r, refused)) = with (Certificate r) (certificate_line r) (inr (r, refused, record { named = is_named p es ts r refused; status_is = refl; prints = refl }))
+          given Answered report.0 (inl (sound, (refl, report.1)))
+      by (inr (r, refused)) = given (Certificate r) (certificate_fault_line r) (inr (r, refused, record { named = refusal_named p es ts r refused; status_is = refl; prints = refl }))
 
   pub some_answer : HasAnswer s bytes
   some_answer = by (cases_lt MAX_CERTIFICATE_BYTES (length bytes))
@@ -127,7 +137,7 @@ tells laws s bytes text (inr is) = by is.verdict
   where
     by : IsVerdict s is.problem is.entries is.tokens Answered text → TellsCheckedList s bytes text
     by (inr (r, refused, unsound)) = let wrong = unsound.status_is in absurd (cc)
-    by (inl (answered, sound, prints)) =
+    by (inl (sound, (answered, prints))) =
         let ground = laws.ground is.problem is.entries is.tokens is.means.front.of.problem (laws.fits bytes is.problem is.entries is.tokens is.means) sound in
         record {
           problem = is.problem;
@@ -138,3 +148,23 @@ tells laws s bytes text (inr is) = by is.verdict
           ground = ground;
           holds = laws.holds is.problem is.entries ground;
         }
+
+-- what refuses a certificate, and is not want of memory
+refused_for : (p : Problem) (es : List Entry) (ts : List Token) (r : CertRefusal) → IsNoCertificate p (pos 0) es ts r → r ≢ refusal.Memory → IsRefusal p (pos 0) es ts r
+refused_for p es ts (refusal.Entry j why) none other = none
+refused_for p es ts (refusal.Close k why) none other = none
+refused_for p es ts refusal.Short none other = none
+refused_for p es ts refusal.Long none other = none
+refused_for p es ts refusal.Memory none other = absurd (other refl)
+
+-- entries with a charge for each site are those of a report
+pub entries_are_of : (p : Problem) (es : List Entry) → FitsProblem p es → AreOf p es
+entries_are_of p [] all = All-nil (λ (e : Entry). IsChargeList p e.charges)
+entries_are_of p (e ∷ es) all = All-cons (λ (e : Entry). IsChargeList p e.charges) e es (all 0 e.charges (omega arith)) (entries_are_of p es (λ k d less. all (suc k) d (omega arith)))
+
+-- a report is the verdict on a sound certificate, and the first test that another fails is that on it
+pub sound_verdict : (s : Settings) (p : Problem) (es : List Entry) (ts : List Token) → IsSound p (pos 0) es ts → (due : Due) → DueIs (IsReportAnswer s p es) due → DueIs (IsVerdict s p es ts) due
+sound_verdict s p es ts sound due is = record { ends = is.ends; answers = λ text of. inl (sound, is.answers text of) }
+
+pub unsound_verdict : (s : Settings) (p : Problem) (es : List Entry) (ts : List Token) (r : CertRefusal) → IsNoCertificate p (pos 0) es ts r → (due : Due) → DueIs (IsUnsoundAnswer r) due → DueIs (IsVerdict s p es ts) due
+unsound_verdict s p es ts r none due is = record { ends = is.ends; answers = λ text of. let answer = is.answers text of in inr (r, refused_for p es ts r none answer.named, answer) }

@@ -1,2 +1,4 @@
+pub mod Named
 pub mod Certify
 pub mod Check
+pub mod Checked

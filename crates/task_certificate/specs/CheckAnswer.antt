@@ -27,11 +27,16 @@ IsTextFault bytes _ = ⊥
 abbrev pub about_certificate : About
 about_certificate = record { layout = None; skipped = 0 }
 
+-- the report of a list of entries
+abbrev pub IsReportAnswer : Settings → Problem → List Entry → Status → List ℕ → Type 0
+IsReportAnswer s p es status text =
+    (status ≡ Answered) × IsReport s about_certificate p es text
+
 -- a sound certificate is answered by the report of its list, another by the first test that it
 -- fails
 abbrev pub IsVerdict : Settings → Problem → List Entry → List Token → Status → List ℕ → Type 0
 IsVerdict s p es ts status text =
-    ((status ≡ Answered) × IsSound p (pos 0) es ts × IsReport s about_certificate p es text)
+    (IsSound p (pos 0) es ts × IsReportAnswer s p es status text)
     ⊎ ((refusal : CertRefusal) × IsRefusal p (pos 0) es ts refusal
     × IsUnsoundAnswer refusal status text)
 

@@ -5,7 +5,8 @@ ghost use Rattle.certificate_model.specs.Certificates.{IsSound};
 ghost use Rattle.certificate_check.specs.Checking.{IsNoCertificate};
 ghost use Rattle.certificate_reading.specs.Texts.{IsFront, IsFrontOf};
 ghost use Rattle.run_answer.specs.Due.{DueIs};
-ghost use Rattle.task_certificate.specs.CheckAnswer.{IsCheckAnswer, IsVerdict};
+ghost use Rattle.ground_report.specs.Subject.{AreOf};
+ghost use Rattle.task_certificate.specs.CheckAnswer.{IsCheckAnswer, IsReportAnswer, IsVerdict};
 
 use certificate_check::{CertRefusal, Checker, laws::fed_checkers_tell};
 use certificate_reading::laws::read_texts_fit;

@@ -9,16 +9,14 @@ ghost use Rattle.task_certificate.specs.CertifyAnswer.{IsCertifyAnswer};
 ghost use Rattle.task_certificate.specs.CheckAnswer.{IsCheckAnswer};
 ghost use Rattle.task_certificate.specs.Told.{TellsCheckedList, TellsSoundCertificate};
 
-use certificate_laws::laws::{
-    certificates_have_one_verdict, each_certificate_has_a_verdict, sound_lists_are_ground_lists,
-};
+use certificate_laws::laws::{certificates_have_one_verdict, sound_lists_are_ground_lists};
 use certificate_reading::laws as texts;
 use certificate_writing::laws::{
     one_own_certificate, own_certificates_are_read_back, own_certificates_are_sound,
 };
 use ground_state::laws::one_answer;
 use task_ground::laws::{ground_lists_hold, one_report, some_ground_answer};
-use walk_model::laws::ground_lists_have_written_tokens;
+use walk_model::laws::{each_certificate_has_a_verdict, ground_lists_have_written_tokens};
 
 /// For a problem one status and one text at most are the answer of `certify`.
 pub fn one_certify_answer()
