@@ -6,10 +6,10 @@ ghost use Rattle.task_ground.specs.GroundAnswer.{IsGroundAnswer};
 
 use crate::report::report_of;
 use command_words::{SearchSettings, Settings};
+use ground_entries::GroundList;
 use ground_report::About;
 use ground_state::{SolveAnswer, solve};
 use potential_problem::Problem;
-use ground_entries::GroundList;
 use run_answer::{Due, DueText, Status, budget_due, long_list_due};
 use sidb_io::Gate;
 use sidb_units::Memory;

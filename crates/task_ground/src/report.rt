@@ -4,9 +4,9 @@ ghost use Rattle.ground_report.specs.Subject.{AreOf};
 ghost use Rattle.task_ground.specs.GroundAnswer.{IsReport};
 
 use command_words::Settings;
+use ground_entries::GroundList;
 use ground_report::About;
 use potential_problem::Problem;
-use ground_entries::GroundList;
 use sidb_units::Memory;
 use sim_report::{ground_json, ground_text};
 use std::alloc::Global;

@@ -1,5 +1,5 @@
 -- by all settings each input means a problem, or has a first fault
-use Rattle.std.proofs.Common.{◌≡◌, refl, ℕ, ◌<◌, ◌≤◌, List, length, ◌⊎◌, inl, inr, arith}
+use Rattle.std.proofs.Common.{refl, ℕ, ◌<◌, ◌≤◌, List, length, ◌⊎◌, inl, inr}
 use Rattle.std.proofs.lemmas.Bool.{cases_lt}
 use Rattle.sidb_units.specs.declared.TheConstants.{MAX_INPUT_BYTES}
 use Rattle.charge_model.specs.Problem.{Problem, IsProblem}
