@@ -1,15 +1,15 @@
 -- whether a list is a candidate, and whether one list beats another, is decided
-use Rattle.std.proofs.Common.{◌≡◌, ◌≢◌, ℕ, List, [], ◌∷◌, length, pos, ◌-ℤ◌, ◌<ℤ◌, refl, arith, ◌⊎◌, inl, inr}
+use Rattle.std.proofs.Common.{◌≡◌, ◌≢◌, ℕ, List, [], ◌∷◌, length, ℤ, pos, negsuc, ◌-ℤ◌, ◌≤ℤ◌, ◌<ℤ◌, refl, arith, ◌⊎◌, inl, inr}
 use Rattle.std.proofs.lemmas.Int.{ints}
 use Rattle.std.proofs.lemmas.Bool.{cases_eq}
 use Rattle.charge_model.specs.declared.charge.Charge.{Charge}
 use Rattle.charge_model.specs.declared.charge.Charge.TheVariants.{Neg, Neutral, Pos}
 use Rattle.charge_model.specs.Charges.{IsOfBase}
-use Rattle.charge_model.specs.Problem.{Problem, IsProblem, UnderEveryTable}
-use Rattle.charge_model.specs.Rules.{energy, IsChargeList, IsPossiblyValid, IsCertainlyValid, Beats}
+use Rattle.charge_model.specs.Problem.{Problem, Table, IsProblem, UnderEveryTable}
+use Rattle.charge_model.specs.Rules.{energy, slack, IsChargeList, IsValid, IsPossiblyValid, IsCertainlyValid, Beats}
 use Rattle.charge_model.specs.GroundList.{IsCandidate}
 use Rattle.certain_energy_laws.proofs.Extremes.{greatest_difference}
-use Rattle.certain_energy_laws.proofs.Decisions.{Decided, both_decided, less_decided, certain_decided, possible_decided}
+use Rattle.certain_energy_laws.proofs.Decisions.{Decided, both_decided, each_decided, less_decided, certain_decided, possible_decided}
 
 -- where one holds exactly if the other does
 decided_by : (P Q : Type 0) → (P → Q) → (Q → P) → Decided P → Decided Q
@@ -38,6 +38,16 @@ pub candidate_decided : (p : Problem) (c : List Charge) → IsProblem p → Deci
 candidate_decided p c is = decided_by (IsChargeList p c × IsPossiblyValid p c) (IsCandidate p c)
     (λ h. record { is_list = h.0; possible = h.1 }) (λ candidate. (candidate.is_list, candidate.possible))
     (both_decided (IsChargeList p c) (IsPossiblyValid p c) (list_decided p c) (possible_decided p c is))
+
+-- whether a number is at least 0
+from_zero_decided : (z : ℤ) → Decided (pos 0 ≤ℤ z)
+from_zero_decided (pos n) = inl (omega (arith, ints))
+from_zero_decided (negsuc n) = inr (λ h. absurd (omega (arith, ints, h)))
+
+-- whether it is a charge list that is valid under a table
+pub valid_decided : (p : Problem) (t : Table) (c : List Charge) → Decided (IsChargeList p c × IsValid p t c)
+valid_decided p t c = both_decided (IsChargeList p c) (IsValid p t c) (list_decided p c)
+    (each_decided p c (λ q. pos 0 ≤ℤ slack p c q t) (λ q of_list. from_zero_decided (slack p c q t)))
 
 -- w has less energy than c under every table
 abbrev IsLower : Problem → List Charge → List Charge → Type 0

@@ -1,7 +1,7 @@
 ghost use Rattle.std.specs.Prelude.{◌⊎◌, ℤ, ◌-ℤ◌, List, Option};
 ghost use Rattle.charge_model.specs.declared.charge.Charge.{Charge};
-ghost use Rattle.charge_model.specs.Problem.{Problem, IsProblem, IsLeast, IsGreatest};
-ghost use Rattle.charge_model.specs.Rules.{energy, slack, Inequality, IsInequalityOf, Beats};
+ghost use Rattle.charge_model.specs.Problem.{Problem, Table, IsProblem, IsLeast, IsGreatest};
+ghost use Rattle.charge_model.specs.Rules.{energy, slack, Inequality, IsInequalityOf, IsChargeList, IsValid, Beats};
 ghost use Rattle.charge_model.specs.GroundList.{IsCandidate};
 ghost use Rattle.charge_model.specs.Tree.{IsLeastCertain};
 
@@ -47,6 +47,12 @@ pub fn slacks_have_greatest_values()
 pub fn lists_are_candidates_or_not()
     ensures { (p : Problem) (c : List Charge) → IsProblem p
         → IsCandidate p c ⊎ (IsCandidate p c → ⊥) }
+{}
+
+/// Whether a list is a charge list that is valid under a table is decided.
+pub fn lists_are_valid_or_not()
+    ensures { (p : Problem) (t : Table) (c : List Charge)
+        → (IsChargeList p c × IsValid p t c) ⊎ (IsChargeList p c × IsValid p t c → ⊥) }
 {}
 
 /// Whether one list beats another is decided.

@@ -1,8 +1,8 @@
-ghost use Rattle.std.specs.Prelude.{IfErr, ◌≡◌, ◌≢◌, ◌↔◌, IsOk, Err, ◌<◌, ◌-◌, ◌^◌, List, ℕ, Option, None, IfOk, MatchOption};
+ghost use Rattle.std.specs.Prelude.{IfErr, ◌≡◌, ◌≢◌, ◌↔◌, IsOk, Err, ◌<◌, ◌-◌, ◌^◌, List, ℕ, Option, None, IfOk, MatchOption, pos};
 ghost use Rattle.certificate_model.specs.declared.token.Token.{Token};
 ghost use Rattle.certificate_model.specs.declared.refusal.CertRefusal.{CertRefusal};
 ghost use Rattle.charge_model.specs.GroundList.{lists_of};
-ghost use Rattle.certificate_model.specs.Entries.{AreSoundEntries, EntryFailsFirst};
+ghost use Rattle.certificate_model.specs.Entries.{AreSoundEntries};
 ghost use Rattle.certificate_model.specs.Certificates.{FitsProblem};
 ghost use Rattle.entry_facts.specs.Facts.{AreFactsOfEach};
 ghost use Rattle.certificate_check.specs.Checking.{IsOpening, IsNoOpening, Certified, AcceptsToken, RefusesToken, HasGoneOn, HasRefused, HasPassed, IsFinished, refused_token, faults_of};
@@ -12,7 +12,7 @@ use crate::refused::Refused;
 use certificate_laws::laws::trails_grow;
 use certificate_model::{CertRefusal, Token};
 use entry_facts::{EntryFacts, all_facts};
-use entry_tests::{RefusedEntry, first_refused};
+use entry_tests::first_refused;
 use potential_problem::Problem;
 use prefix_bound::Track;
 use ground_entries::GroundList;
@@ -21,26 +21,24 @@ use std::alloc::Global;
 use std::marker::Model;
 use token_sinks::{Stop, TokenSink};
 use token_tests::first_failing;
-use window_model::Window;
+use window_model::{Window, window_of};
 
-/// The facts of the entries, or the first entry that fails a test.
+/// The facts of the entries, or the first test that one of them fails.
 fn tested_facts(
     alloc: Global,
     problem: &Problem,
     window: Window,
     list: &GroundList,
-) -> Result<Result<Vec<EntryFacts>, RefusedEntry>, Memory>
+) -> Result<Vec<EntryFacts>, CertRefusal>
     requires { FitsProblem problem.now list.now }
-    ensures ok { IfOk result (λ r. IfOk r
-        (λ v. AreFactsOfEach problem.now (lists_of list.now) v.items)) }
-    ensures sound { IfOk result (λ r. IfOk r (λ v. AreSoundEntries problem.now window.width list.now)) }
-    ensures refused { IfOk result (λ r. IfErr r
-        (λ x. EntryFailsFirst problem.now window.width list.now x.entry x.why)) }
+    ensures ok { IfOk result (λ v. AreFactsOfEach problem.now (lists_of list.now) v.items) }
+    ensures sound { IfOk result (λ _. AreSoundEntries problem.now window.width list.now) }
+    ensures refused { IfErr result (IsNoOpening problem.now window.width list.now) }
 {
     let facts = all_facts(alloc, problem, list)?;
     match first_refused(alloc, problem, window, list, facts.as_slice())? {
-        Some(refused) => Ok(Err(refused)),
-        None => Ok(Ok(facts)),
+        Some(refused) => Err(CertRefusal::Entry(refused.entry, refused.why)),
+        None => Ok(facts),
     }
 }
 
@@ -72,9 +70,24 @@ impl<'a> Model for Checker<'a> {
 }
 
 impl<'a> Checker<'a> {
+    /// A checker with a window of 0 over this problem and this list that has taken no token, or the
+    /// first test that an entry fails.
+    pub fn new(
+        alloc: Global,
+        problem: &'a Problem,
+        list: &'a GroundList,
+    ) -> Result<Checker<'a>, CertRefusal>
+        requires { FitsProblem problem.now list.now }
+        ensures ok { IfOk result (IsOpening problem.now (pos 0) list.now) }
+        ensures sound { IfOk result (λ _. AreSoundEntries problem.now (pos 0) list.now) }
+        ensures refused { IfErr result (IsNoOpening problem.now (pos 0) list.now) }
+    {
+        Checker::within(alloc, problem, window_of(0), list)
+    }
+
     /// A checker over this problem, this window and this list that has taken no token, or the first
     /// test that an entry fails.
-    pub fn new(
+    pub fn within(
         alloc: Global,
         problem: &'a Problem,
         window: Window,
@@ -85,24 +98,19 @@ impl<'a> Checker<'a> {
         ensures sound { IfOk result (λ _. AreSoundEntries problem.now window.width list.now) }
         ensures refused { IfErr result (IsNoOpening problem.now window.width list.now) }
     {
-        match tested_facts(alloc, problem, window, list) {
-            Err(Memory) => Err(CertRefusal::Memory),
-            Ok(Err(refused)) => Err(CertRefusal::Entry(refused.entry, refused.why)),
-            Ok(Ok(facts)) => match Track::new(alloc, problem) {
-                Err(Memory) => Err(CertRefusal::Memory),
-                Ok(track) => Ok(Checker {
-                    alloc,
-                    problem,
-                    window,
-                    list,
-                    facts,
-                    track,
-                    whole: false,
-                    passed: 0,
-                    refused: None,
-                }),
-            },
-        }
+        let facts = tested_facts(alloc, problem, window, list)?;
+        let track = Track::new(alloc, problem)?;
+        Ok(Checker {
+            alloc,
+            problem,
+            window,
+            list,
+            facts,
+            track,
+            whole: false,
+            passed: 0,
+            refused: None,
+        })
     }
 
     /// Why the next token is refused here, where it is.
@@ -187,13 +195,12 @@ impl<'a> TokenSink for Checker<'a> {
 
     fn token(&mut self, token: Token) -> Result<(), Stop> {
         trails_grow();
-        match self.why_refused(token) {
-            Err(Memory) => Err(Stop::Memory),
-            Ok(Some(refusal)) => {
+        match self.why_refused(token)? {
+            Some(refusal) => {
                 self.refuse(token, refusal);
                 Err(Stop::Fault)
             }
-            Ok(None) => {
+            None => {
                 self.go_on(token);
                 Ok(())
             }
