@@ -6,18 +6,8 @@ ghost use Rattle.certificate_reading.specs.Texts.{IsCertText, IsCertFault};
 use crate::CertText;
 use crate::feeding::feed;
 use crate::scan::scan_certificate;
-use potential_problem::Problem;
-use ground_entries::GroundList;
 use std::alloc::Global;
-use token_sinks::Tokens;
-
-/// A certificate: a problem, its list, and the tokens that close the tree.
-#[derive(Drop)]
-pub struct Certificate {
-    pub problem: Problem,
-    pub list: GroundList,
-    pub tokens: Tokens,
-}
+use token_sinks::{Certificate, Tokens};
 
 /// The certificate, exactly where the text is a certificate text, else its first fault.
 pub fn read_certificate(alloc: Global, text: &[u8]) -> Result<Certificate, CertText>

@@ -2,8 +2,8 @@ use Rattle.std.proofs.Common.{◌∙◌, ap, ◌++◌, [], ◌∷◌}
 use Rattle.text_rows.specs.Rows.{text_of}
 use Rattle.ground_entries.specs.Seen.{seen}
 use Rattle.certificate_lines.specs.Lines.{words_of, entry_line}
-use Rattle.certificate_printing.proofs.PrintLemmas.{entry_more}
-use Rattle.certificate_printing.proofs.print.push_entries.Goals as goal
+use Rattle.prune_certificate.proofs.PrintLemmas.{entry_more}
+use Rattle.prune_certificate.proofs.print.push_entries.Goals as goal
 
 pub loop-j-preserved : goal.loop-j-preserved
 loop-j-preserved c =

@@ -6,7 +6,7 @@ ghost use Rattle.text_rows.specs.Rows.{text_of};
 ghost use Rattle.ground_entries.specs.Seen.{seen};
 ghost use Rattle.certificate_lines.specs.Lines.{words_of, entry_line as line_of_entry};
 ghost use Rattle.certificate_reading.specs.Texts.{head_words};
-ghost use Rattle.certificate_printing.specs.Printed.{entry_part, head_text};
+ghost use Rattle.prune_certificate.specs.Printed.{entry_part, head_text};
 
 use entry_lines::entry_line;
 use potential_problem::Problem;
