@@ -3,17 +3,19 @@ ghost use Rattle.charge_model.specs.Rules.{IsChargeList};
 ghost use Rattle.charge_model.specs.GroundList.{lists_of};
 ghost use Rattle.ground_entries.specs.Seen.{seen};
 
-use certificate_check::check_within;
+use certificate_check::{check, check_within};
 use certificate_model::{CertRefusal, CloseWhy, EntryWhy, Token};
 use charge_model::{Deciding, Mark, Test, span_between};
 use charge_state::{Charges, read_charges};
 use potential_problem::Problem;
+use ground_entries::{Entry, list_of};
 use potential_table::read_table;
-use ground_entries::{Entry, GroundList, list_of};
+use sidb_io::MemSink;
 use sidb_units::{MAX_ENTRIES, Memory};
 use std::alloc::Global;
 use std::test::Fail;
-use token_sinks::{TokenSink, Tokens};
+use token_sinks::{Certificate, Stop, TokenSink, Tokens};
+use token_writer::write_tokens;
 use window_model::{Window, window_of};
 
 /// Two neighbours along a row: one of them negative, whichever.
@@ -176,7 +178,36 @@ fn answer_on(
     }
     let list = list_of(entries);
     let tokens = given(alloc, tokens)?;
-    Ok(check_within(alloc, problem, window, &list, &tokens))
+    match check_within(alloc, problem, window, &list, &tokens) {
+        Ok(same) => {
+            if same.len() == list.len() {
+                Ok(Ok(()))
+            } else {
+                Err(Memory)
+            }
+        }
+        Err(refusal) => Ok(Err(refusal)),
+    }
+}
+
+/// How many entries the top call finds in the certificate of two neighbours.
+fn checked(alloc: Global) -> Result<Result<usize, CertRefusal>, Memory> {
+    let Ok(problem) = read_table(alloc, TWO.as_bytes()) else {
+        return Err(Memory);
+    };
+    let entries = listed(alloc, &problem, &[certain("-0"), certain("0-")])?;
+    if entries.len() > MAX_ENTRIES {
+        return Err(Memory);
+    }
+    let certificate = Certificate {
+        problem,
+        list: list_of(entries),
+        tokens: given(alloc, &TOKENS)?,
+    };
+    match check(alloc, &certificate) {
+        Ok(list) => Ok(Ok(list.len())),
+        Err(refusal) => Ok(Err(refusal)),
+    }
 }
 
 /// A refused token.
@@ -356,5 +387,24 @@ fn windows_lower_the_bound(rt: HostRuntime) -> Result<(), Fail> {
     assert_eq!(rt; cut, Err(CertRefusal::Short));
     let kept = answer(alloc, TWO, window_of(620_124_254_312), &lines, &tokens)?;
     assert_eq!(rt; kept, closed(2, CloseWhy::NotAbove));
+    Ok(())
+}
+
+#[test]
+fn the_top_call_gives_the_list(rt: HostRuntime) -> Result<(), Fail> {
+    assert_eq!(rt; checked(rt.alloc())?, Ok(2));
+    Ok(())
+}
+
+#[test]
+fn tokens_are_written_as_lines(rt: HostRuntime) -> Result<(), Fail> {
+    let alloc = rt.alloc();
+    let tokens = given(alloc, &TOKENS[..5])?;
+    let mut sink = MemSink::new(Vec::with_capacity(alloc, 64)?, 3, Vec::new(alloc));
+    assert_eq!(rt; write_tokens(&tokens, &mut sink), Ok(()));
+    assert_eq!(rt; sink.written(), b"n\nn\ns 0\nl 0\ns 1\n".as_slice());
+    let mut failing = MemSink::new(Vec::with_capacity(alloc, 64)?, 3, vec![in alloc; 1u64]?);
+    assert_eq!(rt; write_tokens(&tokens, &mut failing), Err(Stop::Fault));
+    assert_eq!(rt; failing.written(), b"n\n".as_slice());
     Ok(())
 }

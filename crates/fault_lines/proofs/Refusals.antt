@@ -2,8 +2,11 @@
 use Rattle.std.proofs.Common.{◌≡◌, refl, length, ap, arith}
 use Rattle.table_reading.specs.declared.fault.TableFault.TheVariants as table
 use Rattle.sqd_layout.specs.declared.fault.SqdFault.TheVariants as layout
-use Rattle.fault_lines.specs.declared.input_fault.InputFault.TheVariants.{Layout, Table}
+use Rattle.certificate_model.specs.declared.refusal.CertRefusal.TheVariants as refusal
+use Rattle.certificate_reading.specs.declared.fault.CertText.TheVariants as text
+use Rattle.fault_lines.specs.declared.input_fault.InputFault.TheVariants.{Layout, Table, Text}
 use Rattle.fault_lines.specs.FaultLines.{IsNamed, input_line}
+use Rattle.fault_lines.specs.CertificateLines.{certificate_fault_line}
 
 no_table_memory : IsNamed (Table table.Memory) → ⊥
 no_table_memory is = is.table refl
@@ -16,3 +19,12 @@ of_tables_or_layouts is = let differ : 21 ≡ 27 = ap length is in omega (arith,
 
 sites_or_fixed_charges : input_line (Layout layout.TooMany) ≡ input_line (Layout layout.TooManyFixes) → ⊥
 sites_or_fixed_charges is = let differ : 21 ≡ 27 = ap length is in omega (arith, differ)
+
+no_text_memory : IsNamed (Text text.Memory) → ⊥
+no_text_memory is = is.certificate refl
+
+no_memory_in_a_table : IsNamed (Text (text.Table table.Memory)) → ⊥
+no_memory_in_a_table is = is.certificate_table refl
+
+short_or_long : certificate_fault_line refusal.Short ≡ certificate_fault_line refusal.Long → ⊥
+short_or_long is = let differ : 24 ≡ 23 = ap length is in omega (arith, differ)

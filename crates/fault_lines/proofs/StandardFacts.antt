@@ -1,11 +1,16 @@
 -- lines written by hand
 use Rattle.std.proofs.Common.{◌≡◌, refl, [], ◌∷◌, ◌++◌, codes}
 use Rattle.std.specs.Fmt.{digits}
-use Rattle.table_reading.specs.declared.fault.LineWhy.TheVariants.{Form}
+use Rattle.table_reading.specs.declared.fault.LineWhy.TheVariants.{Form, Range}
 use Rattle.table_reading.specs.declared.fault.TableFault.TheVariants as table
 use Rattle.sqd_layout.specs.declared.fault.SqdFault.TheVariants as layout
-use Rattle.fault_lines.specs.declared.input_fault.InputFault.TheVariants.{TooLong, Layout, Table}
+use Rattle.certificate_model.specs.declared.refusal.EntryWhy.TheVariants.{NotPossible}
+use Rattle.certificate_model.specs.declared.refusal.CloseWhy.TheVariants.{PopulationHolds}
+use Rattle.certificate_model.specs.declared.refusal.CertRefusal.TheVariants as refusal
+use Rattle.certificate_reading.specs.declared.fault.CertText.TheVariants as text
+use Rattle.fault_lines.specs.declared.input_fault.InputFault.TheVariants.{TooLong, Layout, Table, Text}
 use Rattle.fault_lines.specs.FaultLines.{IsNamed, input_line, budget_line, words_line, list_too_long_line}
+use Rattle.fault_lines.specs.CertificateLines.{certificate_fault_line}
 
 words : words_line ≡ codes "fault words" ++ 10 ∷ []
 words = refl
@@ -52,4 +57,25 @@ missing_near = refl
 
 -- a fault that has words
 named : IsNamed (Layout layout.TooMany)
-named = record { layout = λ is. absurd (cc); table = λ is. absurd (cc) }
+named = record { layout = λ is. absurd (cc); table = λ is. absurd (cc); certificate = λ is. absurd (cc); certificate_table = λ is. absurd (cc) }
+
+text_line : input_line (Text (text.Line 12 Range)) ≡ codes "fault input certificate line 12 range" ++ 10 ∷ []
+unfolding digits
+text_line = refl
+
+table_of_text : input_line (Text (text.Table table.TooMany)) ≡ codes "fault input table too-many" ++ 10 ∷ []
+table_of_text = refl
+
+refused_entry : certificate_fault_line (refusal.Entry 0 NotPossible) ≡ codes "fault certificate entry 0 not-possible" ++ 10 ∷ []
+unfolding digits
+refused_entry = refl
+
+refused_token : certificate_fault_line (refusal.Close 10 PopulationHolds) ≡ codes "fault certificate token 10 population-holds" ++ 10 ∷ []
+unfolding digits
+refused_token = refl
+
+short : certificate_fault_line refusal.Short ≡ codes "fault certificate short" ++ 10 ∷ []
+short = refl
+
+long : certificate_fault_line refusal.Long ≡ codes "fault certificate long" ++ 10 ∷ []
+long = refl

@@ -7,8 +7,10 @@ use Rattle.table_reading.specs.declared.fault.TableFault.{TableFault}
 use Rattle.table_reading.specs.declared.fault.TableFault.TheVariants as table
 use Rattle.sqd_layout.specs.declared.fault.SqdFault.{SqdFault}
 use Rattle.sqd_layout.specs.declared.fault.SqdFault.TheVariants as layout
+use Rattle.certificate_reading.specs.declared.fault.CertText.{CertText}
+use Rattle.certificate_reading.specs.declared.fault.CertText.TheVariants as text
 use Rattle.fault_lines.specs.declared.input_fault.InputFault.{InputFault}
-use Rattle.fault_lines.specs.declared.input_fault.InputFault.TheVariants.{TooLong, Layout, Table}
+use Rattle.fault_lines.specs.declared.input_fault.InputFault.TheVariants.{TooLong, Layout, Table, Text}
 
 -- the word of what is wrong with a line
 abbrev pub why_word : LineWhy → List ℕ
@@ -44,15 +46,25 @@ layout_fault_words (layout.Duplicate a b) = codes "duplicate" ∷ decimal a ∷ 
 layout_fault_words (layout.TooClose a b) = codes "too-close" ∷ decimal a ∷ decimal b ∷ []
 layout_fault_words layout.Memory = []
 
+-- what is wrong with a certificate text: with its table, or with another line
+abbrev pub text_fault_words : CertText → List (List ℕ)
+text_fault_words (text.Table fault) = codes "table" ∷ table_fault_words fault
+text_fault_words (text.Line k why) =
+    codes "certificate" ∷ codes "line" ∷ decimal k ∷ why_word why ∷ []
+text_fault_words text.Memory = []
+
 -- what is wrong with an input
 abbrev pub input_fault_words : InputFault → List (List ℕ)
 input_fault_words TooLong = codes "too-long" ∷ []
 input_fault_words (Layout fault) = layout_fault_words fault
 input_fault_words (Table fault) = codes "table" ∷ table_fault_words fault
+input_fault_words (Text fault) = text_fault_words fault
 
 -- a fault of the input itself, and not that memory ran out
 pub record IsNamed (fault : InputFault) : Type 0 where
   pub layout : fault ≢ Layout layout.Memory
+  pub certificate : fault ≢ Text text.Memory
+  pub certificate_table : fault ≢ Text (text.Table table.Memory)
   pub table : fault ≢ Table table.Memory
 
 -- one line of words that begin with `fault`

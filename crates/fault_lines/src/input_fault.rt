@@ -1,3 +1,4 @@
+use certificate_reading::CertText;
 use potential_table::TableFault;
 use sqd_layout::SqdFault;
 
@@ -10,4 +11,6 @@ pub enum InputFault {
     Layout(SqdFault),
     /// The first fault of a table text.
     Table(TableFault),
+    /// The first fault of a certificate text.
+    Text(CertText),
 }

@@ -2,6 +2,7 @@ ghost use Rattle.std.specs.Prelude.{◌≡◌, string_bytes, IfOk};
 ghost use Rattle.fault_lines.specs.FaultLines.{IsNamed, budget_line, input_line, list_too_long_line, words_line};
 
 use crate::InputFault;
+use crate::certificate_faults::text_line;
 use crate::layout_lines::layout_line;
 use crate::table_lines::table_line;
 use sidb_units::Memory;
@@ -37,5 +38,6 @@ pub fn input_line(alloc: Global, fault: InputFault) -> Result<String, Memory>
         InputFault::TooLong => Ok("fault input too-long\n".to_string(alloc)?),
         InputFault::Layout(fault) => layout_line(alloc, fault),
         InputFault::Table(fault) => table_line(alloc, fault),
+        InputFault::Text(fault) => text_line(alloc, fault),
     }
 }

@@ -42,8 +42,8 @@ fn pair_line(alloc: Global, word: &str, first: usize, second: usize) -> Result<S
     Ok(format!(in alloc; "fault input table {word} {first} {second}\n")?)
 }
 
-// The word of what is wrong with a line.
-fn why_word(why: LineWhy) -> &'static str
+/// The word of what is wrong with a line.
+pub fn why_word(why: LineWhy) -> &'static str
     ensures { result.now ≡ why_word why }
 {
     match why {
