@@ -75,13 +75,13 @@ not_of_table text (inr part) = front_named 2 part.behind part.wrong
 pub text_named : (text : List ℕ) (f : CertText) → IsCertFault text f → IsNamed (Text f)
 text_named text f found = record {
   layout = λ e. absurd (cc);
+  certificate = λ e. let same : f ≡ cert.Memory = cc in subst (IsCertFault text) same found;
+  certificate_table = λ e. let same : f ≡ cert.Table table.Memory = cc in not_of_table text (subst (IsCertFault text) same found);
   table = λ e. absurd (cc);
-  text = λ e. let same : f ≡ cert.Memory = cc in subst (IsCertFault text) same found;
-  table_of_text = λ e. let same : f ≡ cert.Table table.Memory = cc in not_of_table text (subst (IsCertFault text) same found);
 }
 
 pub too_long_named : IsNamed TooLong
-too_long_named = record { layout = λ e. absurd (cc); table = λ e. absurd (cc); text = λ e. absurd (cc); table_of_text = λ e. absurd (cc) }
+too_long_named = record { layout = λ e. absurd (cc); certificate = λ e. absurd (cc); certificate_table = λ e. absurd (cc); table = λ e. absurd (cc) }
 
 -- the first test that a certificate fails
 pub refusal_named : (p : Problem) (es : List Entry) (ts : List Token) (r : CertRefusal) → IsRefusal p (pos 0) es ts r → r ≢ refusal.Memory
