@@ -20,7 +20,9 @@ use Rattle.certificate_model.specs.declared.refusal.CertRefusal.TheVariants as r
 use Rattle.certificate_check.specs.Checking.{IsNoCertificate}
 use Rattle.certificate_model.specs.Certificates.{FitsProblem, IsSound, IsRefusal}
 use Rattle.certificate_reading.specs.declared.fault.CertText.{CertText}
-use Rattle.certificate_reading.specs.Texts.{IsCertText, IsCertFault}
+use Rattle.certificate_reading.specs.declared.fault.CertText.TheVariants as cert
+use Rattle.certificate_reading.specs.declared.front.CertFront.{CertFront}
+use Rattle.certificate_reading.specs.Texts.{IsCertText, IsCertFault, IsFront, IsFrontOf}
 use Rattle.run_answer.specs.declared.status.Status.{Status}
 use Rattle.run_answer.specs.declared.status.Status.TheVariants.{Answered, Input, Certificate}
 use Rattle.run_answer.specs.declared.due.Due.{Due}
@@ -168,3 +170,21 @@ sound_verdict s p es ts sound due is = record { ends = is.ends; answers = λ tex
 
 pub unsound_verdict : (s : Settings) (p : Problem) (es : List Entry) (ts : List Token) (r : CertRefusal) → IsNoCertificate p (pos 0) es ts r → (due : Due) → DueIs (IsUnsoundAnswer r) due → DueIs (IsVerdict s p es ts) due
 unsound_verdict s p es ts r none due is = record { ends = is.ends; answers = λ text of. let answer = is.answers text of in inr (r, refused_for p es ts r none answer.named, answer) }
+
+-- so the verdict on what is read is the answer
+pub certificate_due : (s : Settings) (bytes : List ℕ) (front : CertFront) → length bytes ≤ MAX_CERTIFICATE_BYTES → IsFront bytes front → (due : Due)
+    → ((tokens : List Token) → IsFrontOf tokens bytes front → DueIs (IsVerdict s front.problem front.list tokens) due) → DueIs (IsCheckAnswer s bytes) due
+certificate_due s bytes front short (tokens, of) due each =
+    let is = each tokens of in
+    record {
+      ends = is.ends;
+      answers = λ text of_due. inr (record { problem = front.problem; entries = front.list; tokens = tokens; short = short; means = of.of; verdict = is.answers text of_due });
+    }
+
+-- and so is the line of a fault
+pub fault_answer : (s : Settings) (bytes : List ℕ) (fault : InputFault) → IsTextFault bytes fault → (due : Due) → DueIs (IsFaultAnswer fault) due → DueIs (IsCheckAnswer s bytes) due
+fault_answer s bytes fault refuses due is = record { ends = is.ends; answers = λ text of. inl (record { fault = fault; refuses = refuses; tells = is.answers text of }) }
+
+pub text_fault_due : (s : Settings) (bytes : List ℕ) (f : CertText) → length bytes ≤ MAX_CERTIFICATE_BYTES → (f ≡ cert.Memory) ⊎ IsCertFault bytes f → (due : Due) → DueIs (IsFaultAnswer (Text f)) due → DueIs (IsCheckAnswer s bytes) due
+text_fault_due s bytes f short (inl memory) due is = record { ends = is.ends; answers = λ text of. absurd ((is.answers text of).named.certificate (ap Text memory)) }
+text_fault_due s bytes f short (inr found) due is = fault_answer s bytes (Text f) (short, found) due is

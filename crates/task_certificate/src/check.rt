@@ -8,7 +8,8 @@ ghost use Rattle.run_answer.specs.Due.{DueIs};
 ghost use Rattle.ground_report.specs.Subject.{AreOf};
 ghost use Rattle.task_certificate.specs.CheckAnswer.{IsCheckAnswer, IsReportAnswer, IsVerdict};
 
-use certificate_check::{CertRefusal, Checker, laws::fed_checkers_tell};
+use certificate_check::laws::fed_checkers_tell;
+use certificate_check::{CertRefusal, Checker};
 use certificate_reading::laws::read_texts_fit;
 use certificate_reading::{CertFront, feed, scan_certificate};
 use command_words::Settings;
@@ -44,6 +45,7 @@ fn verdict_due(
     ensures { IfOk result (λ due. (tokens : List TokenData) → IsFrontOf tokens text.now front.now
         → DueIs (IsVerdict settings.now front.now.problem front.now.list tokens) due) }
 {
+    read_texts_fit();
     match checked(alloc, text, front) {
         Ok(()) => report_due(alloc, settings, front),
         Err(refusal) => refusal_due(alloc, refusal),
