@@ -1,5 +1,5 @@
 -- how large potentials and slacks are under a table of scale 1
-use Rattle.std.proofs.Common.{◌≡◌, ◌≢◌, ◌∙◌, subst, ℕ, zero, suc, ◌<◌, ◌≤◌, ◌*◌, ◌^◌, ◌⊎◌, inl, inr, List, length, ℤ, pos, negsuc, neg_ℤ, ◌+ℤ◌, ◌-ℤ◌, ◌*ℤ◌, ◌≤ℤ◌, Bool, if◌then◌else◌, ◌==◌, arith}
+use Rattle.std.proofs.Common.{◌≡◌, ◌≢◌, ap, sym, subst, ℕ, zero, suc, ◌<◌, ◌≤◌, ◌*◌, ◌^◌, ◌⊎◌, inl, inr, List, length, ℤ, pos, negsuc, neg_ℤ, ◌+ℤ◌, ◌-ℤ◌, ◌*ℤ◌, ◌≤ℤ◌, Bool, if◌then◌else◌, ◌==◌, arith}
 use Rattle.std.specs.Prelude.{unsigned_abs}
 use Rattle.std.proofs.lemmas.Int.{ints}
 use Rattle.std.proofs.lemmas.Bool.{cases_eq, eq-eqb, ne_eqb}
@@ -62,7 +62,7 @@ module _ (p : Problem) (is : IsProblem p) (t : Table) (table : IsTable p t) (one
       by (inl same) = rw (eq-eqb j i same) (omega (arith, ints), omega (arith, ints))
       by (inr other) =
           let k = class_of p i j in
-          let within = class_below p i j is (λ e. other (Rattle.std.proofs.Common.sym e)) l m in
+          let within = class_below p i j is (λ e. other (sym e)) l m in
           rw (ne_eqb j i other) (charged (10 ^ 13) (t.potential k) (charge_at cs j) (number_low k within) (number_high k within))
 
   from_fixed : (i a : ℕ) → i < p.sites → a < fixed_count p → IsUpTo (3 * 10 ^ 13) (t.potential (near_class_of p i a) *ℤ fixed_at p a)
@@ -86,11 +86,17 @@ module _ (p : Problem) (is : IsProblem p) (t : Table) (table : IsTable p t) (one
       size : IsUpTo (88 * 10 ^ 13) (potential_at p t cs i)
       size = potential_size cs i l
 
+      minus : pos t.scale *ℤ p.mu_minus ≡ pos 1 *ℤ p.mu_minus
+      minus = ap (λ n. pos n *ℤ p.mu_minus) one
+
+      plus : pos t.scale *ℤ p.mu_plus ≡ pos 1 *ℤ p.mu_plus
+      plus = ap (λ n. pos n *ℤ p.mu_plus) one
+
       by : (k : Test) → IsUpTo (89 * 10 ^ 13) (test_slack p cs i k t)
-      by AboveMinus = rw one (let levels = is.levels in let least = is.least_level in let most = is.greatest_level in let v = size in (omega (arith, ints, v, levels, least, most), omega (arith, ints, v, levels, least, most)))
-      by AbovePlus = rw one (let levels = is.levels in let least = is.least_level in let most = is.greatest_level in let v = size in (omega (arith, ints, v, levels, least, most), omega (arith, ints, v, levels, least, most)))
-      by BelowMinus = rw one (let levels = is.levels in let least = is.least_level in let most = is.greatest_level in let v = size in (omega (arith, ints, v, levels, least, most), omega (arith, ints, v, levels, least, most)))
-      by BelowPlus = rw one (let levels = is.levels in let least = is.least_level in let most = is.greatest_level in let v = size in (omega (arith, ints, v, levels, least, most), omega (arith, ints, v, levels, least, most)))
+      by AboveMinus = let levels = is.levels in let least = is.least_level in let most = is.greatest_level in let v = size in (omega (arith, ints, v, minus, levels, least, most), omega (arith, ints, v, minus, levels, least, most))
+      by AbovePlus = let levels = is.levels in let least = is.least_level in let most = is.greatest_level in let v = size in (omega (arith, ints, v, plus, levels, least, most), omega (arith, ints, v, plus, levels, least, most))
+      by BelowMinus = let levels = is.levels in let least = is.least_level in let most = is.greatest_level in let v = size in (omega (arith, ints, v, minus, levels, least, most), omega (arith, ints, v, minus, levels, least, most))
+      by BelowPlus = let levels = is.levels in let least = is.least_level in let most = is.greatest_level in let v = size in (omega (arith, ints, v, plus, levels, least, most), omega (arith, ints, v, plus, levels, least, most))
 
   module _ (small : (cs : List Charge) → unsigned_abs (energy p t cs) ≤ t.scale * (4096 * 10 ^ 13)) where
     pub short_difference : (a b : List Charge) → IsShort (energy p t a -ℤ energy p t b)

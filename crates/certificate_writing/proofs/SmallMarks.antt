@@ -47,7 +47,7 @@ module _ (p : Problem) (is : IsProblem p) (small : AreSmall p) (l : List (List C
   short_at t table one (rival j) of = short_difference p is t table one (λ xs. small xs t table) _ cs
 
   reached : (e : Comparison) → IsComparisonOf p l cs e → (z : ℤ) → UnderSomeTable p (λ t. (t.scale ≡ 1) × (comparison_slack p l cs e t ≡ z)) → IsShort z
-  reached e of z (t, table, one, same) = subst IsShort same (short_at t table one e of)
+  reached e of z (t, table, (one, same)) = subst IsShort same (short_at t table one e of)
 
   short_mark : (m : Mark) → IsMark p l cs m → IsShortMark (mark_line m)
   short_mark Certain mark = tt
@@ -71,7 +71,7 @@ module _ (p : Problem) (is : IsProblem p) (small : AreSmall p) (l : List (List C
   mark_in_range : (m : Mark) → IsMark p l cs m → is_mark_in_range p (pos (length l)) (mark_line m) ≡ true
   mark_in_range Certain mark = refl
   mark_in_range (Unresolved (Population i k s)) mark = both _ _ (below i p.sites mark.of_list.0) (in_order s)
-  mark_in_range (Unresolved (Hop i j s)) mark = both _ _ (below i p.sites mark.of_list.0) (both _ _ (below j p.sites mark.of_list.1) (in_order s))
+  mark_in_range (Unresolved (Hop i j s)) mark = both _ _ (both _ _ (below i p.sites mark.of_list.0) (below j p.sites mark.of_list.1)) (in_order s)
   mark_in_range (Unresolved (Rival j s)) mark = both _ _ (below j (length l) mark.of_list) (in_order s)
 
 -- each entry fits its line
