@@ -1,6 +1,6 @@
 pub mod Named
-pub mod Certify
-pub mod Check
+pub mod Certifying
+pub mod Checking
 pub mod Checked
 pub mod StandardFacts
 mod Refusals

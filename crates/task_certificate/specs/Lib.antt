@@ -3,7 +3,7 @@ pub use Rattle.certificate_writing.specs.Writing
 pub use Rattle.run_answer.specs.Status
 pub use Rattle.run_answer.specs.Due
 pub use Rattle.task_ground.specs.GroundAnswer
-pub use Rattle.task_ground.specs.Told
+pub use Rattle.task_ground.specs.Told as GroundTold
 pub mod CertifyAnswer
 pub mod CheckAnswer
 pub mod Told

@@ -1,7 +1,7 @@
-ghost use Rattle.std.specs.Prelude.{◌≡◌, ◌≤◌};
+ghost use Rattle.std.specs.Prelude.{◌≡◌, ◌≤◌, length};
 ghost use Rattle.charge_model.specs.GroundList.{IsMarkedGroundList};
 ghost use Rattle.charge_model.specs.Tree.{IsLeastCertain, node_count};
-ghost use Rattle.sidb_units.specs.declared.TheConstants.{MAX_NODES};
+ghost use Rattle.sidb_units.specs.declared.TheConstants.{MAX_ENTRIES, MAX_NODES};
 
 use ground_entries::{GroundList, Solved};
 use potential_problem::Problem;
@@ -36,7 +36,9 @@ impl<'a> CertificateDue<'a> {
         ensures problem { result.problem ≡ problem.now }
         ensures entries { result.entries ≡ solved.list }
         ensures bound { result.bound ≡ solved.bound }
+        ensures few { length result.entries ≤ MAX_ENTRIES }
     {
+        let _few = solved.list.len();
         CertificateDue {
             problem,
             list: solved.list,

@@ -79,7 +79,10 @@ fn checked(alloc: Global, text: &[u8], front: &CertFront) -> Result<(), CertRefu
 {
     fed_checkers_tell();
     read_texts_fit();
-    let mut checker = Checker::new(alloc, &front.problem, &front.list)?;
+    let mut checker = match Checker::new(alloc, &front.problem, &front.list) {
+        Ok(checker) => checker,
+        Err(refusal) => return Err(refusal),
+    };
     match feed(text, front, &mut checker) {
         Err(Stop::Memory) => Err(CertRefusal::Memory),
         Err(Stop::Fault) => checker.finish(),

@@ -2,7 +2,7 @@ use Rattle.std.proofs.lemmas.Result.{IfOk-weaker}
 use Rattle.run_answer.specs.Due.{DueIs}
 use Rattle.run_answer.specs.Status.{IsUnsoundAnswer}
 use Rattle.task_certificate.specs.CheckAnswer.{IsReportAnswer}
-use Rattle.task_certificate.proofs.Check.{entries_are_of, sound_verdict, unsound_verdict}
+use Rattle.task_certificate.proofs.Checking.{entries_are_of, sound_verdict, unsound_verdict}
 use Rattle.task_certificate.proofs.Checked.{front_fits}
 use Rattle.task_certificate.proofs.check.verdict_due.Goals as goal
 

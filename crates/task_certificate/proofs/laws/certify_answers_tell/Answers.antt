@@ -1,4 +1,4 @@
-use Rattle.task_certificate.proofs.Certify.{tells}
+use Rattle.task_certificate.proofs.Certifying.{tells}
 use Rattle.task_certificate.proofs.laws.certify_answers_tell.Goals as goal
 
 pub returns : goal.returns

@@ -1,4 +1,4 @@
-use Rattle.task_certificate.proofs.Check.{tells}
+use Rattle.task_certificate.proofs.Checking.{tells}
 use Rattle.task_certificate.proofs.laws.check_answers_tell.Goals as goal
 
 pub returns : goal.returns

@@ -1,4 +1,4 @@
-use Rattle.task_certificate.proofs.Certify.{same_answer}
+use Rattle.task_certificate.proofs.Certifying.{same_answer}
 use Rattle.task_certificate.proofs.laws.one_certify_answer.Goals as goal
 
 pub returns : goal.returns

@@ -1,4 +1,4 @@
-use Rattle.task_certificate.proofs.Check.{same_answer}
+use Rattle.task_certificate.proofs.Checking.{same_answer}
 use Rattle.task_certificate.proofs.laws.one_check_answer.Goals as goal
 
 pub returns : goal.returns

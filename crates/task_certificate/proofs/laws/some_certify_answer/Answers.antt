@@ -1,4 +1,4 @@
-use Rattle.task_certificate.proofs.Certify.{some_answer}
+use Rattle.task_certificate.proofs.Certifying.{some_answer}
 use Rattle.task_certificate.proofs.laws.some_certify_answer.Goals as goal
 
 pub returns : goal.returns

@@ -1,4 +1,4 @@
-use Rattle.task_certificate.proofs.Check.{some_answer}
+use Rattle.task_certificate.proofs.Checking.{some_answer}
 use Rattle.task_certificate.proofs.laws.some_check_answer.Goals as goal
 
 pub returns : goal.returns

@@ -1,6 +1,5 @@
 -- what `check` answers for all bytes: one thing, some thing, and the ground list
-use Rattle.std.proofs.Common.{◌≡◌, ◌≢◌, ◌∙◌, ◌≤◌, ◌<◌, ◌⊎◌, inl, inr, sym, ap, subst, refl, ℕ, suc, ℤ, pos, ◌≤ℤ◌, List, [], ◌∷◌, length, arith}
-use Rattle.std.proofs.lemmas.Int.{ints}
+use Rattle.std.proofs.Common.{◌≡◌, ◌≢◌, ◌∙◌, ◌≤◌, ◌<◌, ◌⊎◌, inl, inr, sym, ap, subst, refl, ℕ, suc, ℤ, pos, List, [], ◌∷◌, length, arith}
 use Rattle.std.proofs.lemmas.Bool.{cases_lt}
 use Rattle.std.proofs.lemmas.List.Elements.{All-nil, All-cons}
 use Rattle.charge_model.specs.Problem.{Problem, IsProblem}
@@ -93,7 +92,7 @@ module _ (one : PartsAreOne) (s : Settings) (bytes : List ℕ) where
 pub record HasParts : Type 0 where
   pub read : (text : List ℕ) → ((p : Problem) × (es : List Entry) × (ts : List Token) × IsCertText p es ts text) ⊎ ((f : CertText) × IsCertFault text f)
   pub fits : (text : List ℕ) (p : Problem) (es : List Entry) (ts : List Token) → IsCertText p es ts text → FitsProblem p es
-  pub verdict : (p : Problem) (window : ℤ) (es : List Entry) (tokens : List Token) → IsProblem p → pos 0 ≤ℤ window → FitsProblem p es → IsSound p window es tokens ⊎ ((r : CertRefusal) × IsRefusal p window es tokens r)
+  pub verdict : (p : Problem) (window : ℤ) (es : List Entry) (tokens : List Token) → IsProblem p → FitsProblem p es → IsSound p window es tokens ⊎ ((r : CertRefusal) × IsRefusal p window es tokens r)
   pub report : (s : Settings) (about : About) (p : Problem) (es : List Entry) → IsProblem p → (text : List ℕ) × IsReport s about p es text
 
 -- some status and text are the answer
@@ -105,7 +104,7 @@ module _ (laws : HasParts) (s : Settings) (bytes : List ℕ) where
   of_fault f refuses named = (Input f, input_line f, inl (record { fault = f; refuses = refuses; tells = record { named = named; status_is = refl; prints = refl } }))
 
   of_certificate : length bytes ≤ MAX_CERTIFICATE_BYTES → (p : Problem) (es : List Entry) (ts : List Token) → IsCertText p es ts bytes → HasAnswer s bytes
-  of_certificate short p es ts means = by (laws.verdict p (pos 0) es ts means.front.of.problem (omega (arith, ints)) (laws.fits bytes p es ts means))
+  of_certificate short p es ts means = by (laws.verdict p (pos 0) es ts means.front.of.problem (laws.fits bytes p es ts means))
     where
       given : (status : Status) (text : List ℕ) → IsVerdict s p es ts status text → HasAnswer s bytes
       given status text is = (status, text, inr (record { problem = p; entries = es; tokens = ts; short = short; means = means; verdict = is }))

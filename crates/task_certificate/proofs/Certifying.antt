@@ -1,5 +1,5 @@
 -- what `certify` answers for a problem: one thing, some thing, and a sound certificate
-use Rattle.std.proofs.Common.{◌≡◌, ◌∙◌, ◌≤◌, inl, inr, sym, refl, ℕ, pos, List, length, Option, ℤ, arith}
+use Rattle.std.proofs.Common.{◌≡◌, ◌∙◌, ◌≤◌, inl, inr, sym, subst, refl, ℕ, pos, List, length, Option, ℤ, arith}
 use Rattle.std.proofs.lemmas.Int.{ints}
 use Rattle.charge_model.specs.Problem.{Problem, IsProblem}
 use Rattle.charge_model.specs.GroundList.{Entry, IsMarkedGroundList, lists_of}
@@ -18,6 +18,9 @@ use Rattle.certificate_writing.specs.Writing.{IsOwnCertificate, IsTextUpTo}
 use Rattle.run_answer.specs.declared.status.Status.{Status}
 use Rattle.run_answer.specs.declared.status.Status.TheVariants.{Answered}
 use Rattle.task_ground.specs.GroundAnswer.{IsGroundAnswer, IsUnlisted}
+use Rattle.task_certificate.specs.DueCertificate.{DueCertificate}
+use Rattle.task_certificate.specs.declared.delivery.Delivery.TheVariants.{Certificate}
+use Rattle.task_certificate.specs.Delivery.{DeliveryIs}
 use Rattle.task_certificate.specs.CertifyAnswer.{IsCertificateWithin, IsCertifyAnswer}
 use Rattle.task_certificate.specs.CheckAnswer.{about_certificate}
 use Rattle.task_certificate.specs.Told.{TellsSoundCertificate}
@@ -29,6 +32,17 @@ solved_text p limit solved is few text whole = record {
   own = record { list = solved.list; bound = solved.bound; marked = is.list; least = is.bound; whole = whole };
   few = few;
   within = let count = is.nodes in let within = is.within in omega (arith, count, within);
+}
+
+-- so it is what is due
+pub solved_due : (s : Settings) (p : Problem) (solved : Solved) (d : DueCertificate) → IsSolution p s.search.limit solved → length d.entries ≤ MAX_ENTRIES
+    → d.problem ≡ p → d.entries ≡ solved.list → d.bound ≡ solved.bound → DeliveryIs (IsCertifyAnswer s p) (Certificate d)
+solved_due s p solved d is few problem entries bound = record {
+  ends = tt;
+  answers = λ text whole. inl (refl, solved_text p s.search.limit solved is (subst (λ (es : List Entry). length es ≤ MAX_ENTRIES) entries few) text
+  (subst (λ (q : Problem). IsTextUpTo q solved.bound solved.list text) problem
+  (subst (λ (b : Option ℤ). IsTextUpTo d.problem b solved.list text) bound
+  (subst (λ (es : List Entry). IsTextUpTo d.problem d.bound es text) entries whole))));
 }
 
 -- each part of an answer is one
