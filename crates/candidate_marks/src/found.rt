@@ -5,8 +5,8 @@ ghost use Rattle.candidate_marks.specs.Found.{IsFound, IsWindowFound};
 use crate::candidate::Candidate;
 use crate::marks::entries_of;
 use crate::rivals::unbeaten;
-use potential_problem::Problem;
 use ground_entries::{GroundList, list_of};
+use potential_problem::Problem;
 use sidb_units::{MAX_ENTRIES, Memory};
 use std::alloc::Global;
 use window_laws::laws::{marks_at_zero_are_ground_marks, window_lists_at_zero_are_ground_lists};
@@ -17,9 +17,9 @@ pub fn window_list_of(
     alloc: Global,
     problem: &Problem,
     window: &Window,
-    contenders: &[Candidate],
+    contenders: Vec<Candidate>,
 ) -> Result<Option<GroundList>, Memory>
-    requires { AreContenders problem.now window.now.width contenders.now }
+    requires { AreContenders problem.now window.now.width contenders.items }
     ensures { IfOk result (IsWindowFound problem.now window.now.width) }
 {
     let list = unbeaten(alloc, problem, window, contenders)?;
@@ -34,9 +34,9 @@ pub fn window_list_of(
 pub fn ground_list_of(
     alloc: Global,
     problem: &Problem,
-    contenders: &[Candidate],
+    contenders: Vec<Candidate>,
 ) -> Result<Option<GroundList>, Memory>
-    requires { AreContenders problem.now (pos 0) contenders.now }
+    requires { AreContenders problem.now (pos 0) contenders.items }
     ensures { IfOk result (IsFound problem.now) }
 {
     window_lists_at_zero_are_ground_lists();

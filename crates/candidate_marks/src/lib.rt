@@ -6,11 +6,10 @@ mod bounds;
 mod candidate;
 mod ends;
 mod found;
+mod least;
 mod marks;
 mod rivals;
-mod winners;
 
-pub use bounds::lies_above;
-pub use candidate::{Candidate, candidate_of};
+pub use candidate::{Candidate, candidate_of, candidate_within};
 pub use found::{ground_list_of, window_list_of};
 pub use ground_entries::{Deciding, Entry, GroundList, Mark};

@@ -1,4 +1,4 @@
-ghost use Rattle.std.specs.Prelude.{◌≡◌, ◌<◌, ◌≤ℤ◌, length, map, IfOk, All, MatchOption};
+ghost use Rattle.std.specs.Prelude.{◌≡◌, map, IfOk, All, MatchOption};
 ghost use Rattle.charge_model.specs.Rules.{IsCertainlyValid};
 ghost use Rattle.charge_model.specs.GroundList.{lists_of};
 ghost use Rattle.window_model.specs.Windows.{IsDecidingWithin, IsMarkWithin};
@@ -6,11 +6,11 @@ ghost use Rattle.ground_entries.specs.Seen.{seen};
 ghost use Rattle.candidate_marks.specs.Candidates.{IsWeighed, IsLowest, IsNotAbove, AreNotAbove, IsSometimesLower, charges_of};
 
 use crate::candidate::{Candidate, gap_span};
-use crate::ends::{begins_below, begins_below_end, begins_below_zero};
-use charge_validity::own_mark;
+use crate::ends::{begins_below_end, begins_below_zero};
+use crate::least::lowest;
+use ground_entries::{Deciding, Entry, Mark};
 use linear_form::laws::least_values_decide;
 use potential_problem::{Problem, Span};
-use ground_entries::{Deciding, Entry, Mark};
 use sidb_units::Memory;
 use std::alloc::Global;
 use window_model::Window;
@@ -77,22 +77,6 @@ fn first_rival(
     Ok(None)
 }
 
-/// A candidate whose least energy is the least.
-fn lowest<'a>(problem: &Problem, list: &'a [Candidate]) -> &'a Candidate
-    requires some { 0 < length list.now }
-    requires weighed { All (IsWeighed problem.now) list.now }
-    ensures { IsLowest problem.now list.now result.now }
-{
-    let _ = problem;
-    let mut lowest = &list[0];
-    for candidate in list {
-        if begins_below(&candidate.span, &lowest.span) {
-            lowest = candidate;
-        }
-    }
-    lowest
-}
-
 /// The mark of an entry of a list.
 fn mark_of(
     alloc: Global,
@@ -108,8 +92,7 @@ fn mark_of(
     ensures { IfOk result
         (IsMarkWithin problem.now window.now.width (charges_of list.now) candidate.now.charges) }
 {
-    let own = own_mark(alloc, problem, &candidate.charges)?;
-    match own {
+    match candidate.own {
         Mark::Unresolved(deciding) => Ok(Mark::Unresolved(deciding)),
         Mark::Certain => match first_rival(alloc, problem, window, list, lowest, candidate)? {
             Some(rival) => Ok(Mark::Unresolved(rival)),

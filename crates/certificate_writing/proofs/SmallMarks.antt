@@ -53,19 +53,19 @@ module _ (p : Problem) (is : IsProblem p) (small : AreSmall p) (l : List (List C
   short_mark Certain mark = tt
   short_mark (Unresolved (Population i k s)) mark = (
     small_number i (let site = mark.of_list.0 in let sites = is.few_sites in omega (arith, site, sites)),
-    reached _ mark.of_list s.lo mark.least_slack.reached,
-    reached _ mark.of_list s.hi mark.greatest_slack.reached,
+    reached (comparison_of (Population i k s)) mark.of_list s.lo mark.least_slack.reached,
+    reached (comparison_of (Population i k s)) mark.of_list s.hi mark.greatest_slack.reached,
   )
   short_mark (Unresolved (Hop i j s)) mark = (
     small_number i (let site = mark.of_list.0 in let sites = is.few_sites in omega (arith, site, sites)),
     small_number j (let site = mark.of_list.1 in let sites = is.few_sites in omega (arith, site, sites)),
-    reached _ mark.of_list s.lo mark.least_slack.reached,
-    reached _ mark.of_list s.hi mark.greatest_slack.reached,
+    reached (comparison_of (Hop i j s)) mark.of_list s.lo mark.least_slack.reached,
+    reached (comparison_of (Hop i j s)) mark.of_list s.hi mark.greatest_slack.reached,
   )
   short_mark (Unresolved (Rival j s)) mark = (
     small_number j (let entry = mark.of_list in omega (arith, entry, few)),
-    reached _ mark.of_list s.lo mark.least_slack.reached,
-    reached _ mark.of_list s.hi mark.greatest_slack.reached,
+    reached (comparison_of (Rival j s)) mark.of_list s.lo mark.least_slack.reached,
+    reached (comparison_of (Rival j s)) mark.of_list s.hi mark.greatest_slack.reached,
   )
 
   mark_in_range : (m : Mark) → IsMark p l cs m → is_mark_in_range p (pos (length l)) (mark_line m) ≡ true

@@ -7,6 +7,7 @@ ghost use Rattle.certificate_model.specs.declared.token.Token.{Token};
 ghost use Rattle.walk_model.specs.Walks.{AreWalked};
 ghost use Rattle.token_sinks.specs.Taking.{IsFault};
 ghost use Rattle.token_writer.specs.Writing.{TookLines};
+ghost use Rattle.prune_certificate.specs.Printed.{head_text};
 ghost use Rattle.certificate_writing.specs.Writing.{IsTextUpTo, TookText};
 
 use certificate_walk::walk;
@@ -31,6 +32,25 @@ fn write_bytes<K: Sink>(sink: &mut K, bytes: &[u8]) -> Result<(), Stop>
         Ok(()) => Ok(()),
         Err(_) => Err(Stop::Fault),
     }
+}
+
+/// Writes the text through the line `tokens`.
+fn write_head<K: Sink>(
+    alloc: Global,
+    problem: &Problem,
+    list: &GroundList,
+    sink: &mut K,
+) -> Result<(), Stop>
+    ensures took { TookText (K.written sink.old) (head_text problem.now list.now)
+        (K.written sink.new) result }
+    ensures fault { IsFault result → HasFault (K.faults sink.old) (K.faults sink.new) }
+    ensures counts { K.faults sink.old ≤ K.faults sink.new }
+{
+    let head = match print_head(alloc, problem, list) {
+        Ok(head) => head,
+        Err(Memory) => return Err(Stop::Memory),
+    };
+    write_bytes(sink, head.as_slice())
 }
 
 /// Writes the lines of the tokens as the walk finds them: how many nodes the search tree has.
@@ -76,11 +96,7 @@ pub fn write_certificate<K: Sink>(
     ensures counts { K.faults sink.old ≤ K.faults sink.new }
 {
     token_lines_are_the_end();
-    let head = match print_head(alloc, problem, list) {
-        Ok(head) => head,
-        Err(Memory) => return Err(Stop::Memory),
-    };
-    match write_bytes(sink, head.as_slice()) {
+    match write_head(alloc, problem, list, sink) {
         Ok(()) => {}
         Err(stop) => return Err(stop),
     }

@@ -10,7 +10,7 @@ use Rattle.ground_entries.specs.declared.ground_list.Solved.{Solved}
 use Rattle.sidb_units.specs.declared.TheConstants.{MAX_ENTRIES}
 use Rattle.window_model.specs.Windows.{IsWindowList}
 use Rattle.ground_state.specs.Answer.{IsListedWithin, IsTooLongWithin, IsSolution}
-use Rattle.ground_state.specs.Window.{IsWindowSolution, IsWindowTooLongWithin}
+use Rattle.ground_state.specs.Window.{IsWindowListedWithin, IsWindowTooLongWithin}
 
 pub not_both_lengths : ((p : Problem) (l m : List (List Charge)) → IsGroundList p l → IsGroundList p m → l ≡ m)
     → (p : Problem) (limit : ℕ) (es : List Entry) → IsListedWithin p limit es → IsTooLongWithin p limit → ⊥
@@ -22,12 +22,12 @@ not_both_lengths one p limit es listed long =
 
 -- the same for the window list
 pub not_both_window_lengths : ((p : Problem) (window : ℤ) (l m : List (List Charge)) → IsWindowList p window l → IsWindowList p window m → l ≡ m)
-    → (p : Problem) (window : ℤ) (limit : ℕ) (s : Solved) → IsWindowSolution p window limit s → length s.list ≤ MAX_ENTRIES → IsWindowTooLongWithin p window limit → ⊥
-not_both_window_lengths one p window limit s is few long =
+    → (p : Problem) (window : ℤ) (limit : ℕ) (es : List Entry) → IsWindowListedWithin p window limit es → IsWindowTooLongWithin p window limit → ⊥
+not_both_window_lengths one p window limit es listed long =
     let many = long.many in
-    let same = ap length (one p window (lists_of s.list) many.0 is.list.within many.1) in
-    let whole = length-map s.list (λ e. e.charges) in
-    omega (arith, same, whole, few, many.2)
+    let same = ap length (one p window (lists_of es) many.0 listed.list.within many.1) in
+    let whole = length-map es (λ e. e.charges) in
+    omega (arith, same, whole, listed.few, many.2)
 
 -- the count by a least certain energy keeps the limit or exceeds it, and not both
 pub not_both_budgets : ((p : Problem) (a b : Option ℤ) → IsLeastCertain p a → IsLeastCertain p b → a ≡ b) → (p : Problem) (limit : ℕ) (count : Option ℤ → ℕ)

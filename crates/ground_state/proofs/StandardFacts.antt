@@ -14,7 +14,8 @@ use Rattle.candidate_marks.specs.declared.candidate.Candidate.{Candidate}
 use Rattle.candidate_marks.specs.Candidates.{IsWeighed, ReachesBound, LiesAbove}
 use Rattle.ground_entries.specs.declared.ground_list.Solved.{Solved}
 use Rattle.ground_state.specs.Answer.{IsListedWithin, IsOverBudget, IsSolution}
-use Rattle.ground_state.specs.Window.{window_end, IsWindowSolution}
+use Rattle.walk_model.specs.Walks.{raised_bound}
+use Rattle.ground_state.specs.Window.{IsWindowSolution}
 use Rattle.ground_state.specs.Kept.{AreKept}
 use Rattle.window_laws.proofs.StandardFacts.{one_site_window}
 
@@ -39,7 +40,7 @@ solved_within : IsSolution one_site 2 one_solution
 solved_within = record { list = one_site_list; bound = one_site_bound; nodes = sym two_nodes; within = omega arith }
 
 -- within a window of 5 it is the same list, and the tree has no more nodes
-two_nodes_in_window : node_count one_site (window_end (Some (pos 0)) (pos 5)) ≡ 2
+two_nodes_in_window : node_count one_site (raised_bound (pos 5) (Some (pos 0))) ≡ 2
 unfolding node_count is_node is_open low pair_low site_low least_known greatest_known can_be greatest_potential greatest_fixed may_be_positive least_potential least_fixed class_of near_class_of
 two_nodes_in_window = refl
 

@@ -1,16 +1,19 @@
 //! That no problem and limit have two answers.
-ghost use Rattle.std.specs.Prelude.{◌≡◌, ◌≤◌, ◌⊎◌, ℕ, ℤ, List, length};
+ghost use Rattle.std.specs.Prelude.{◌≡◌, ◌≤◌, ◌↔◌, ◌⊎◌, ℕ, ℤ, pos, List, length};
 ghost use Rattle.charge_model.specs.Problem.{Problem, IsProblem};
 ghost use Rattle.charge_model.specs.GroundList.{Entry};
 ghost use Rattle.ground_entries.specs.declared.ground_list.Solved.{Solved};
 ghost use Rattle.sidb_units.specs.declared.TheConstants.{MAX_ENTRIES};
 ghost use Rattle.ground_state.specs.Answer.{IsListedWithin, IsTooLongWithin, IsWithinBudget, IsOverBudget, IsSolution};
-ghost use Rattle.ground_state.specs.Window.{IsWindowSolution, IsWindowTooLongWithin, IsWindowWithinBudget, IsWindowOverBudget};
+ghost use Rattle.ground_state.specs.Window.{IsWindowListedWithin, IsWindowTooLongWithin, IsWindowWithinBudget, IsWindowOverBudget};
 
 use branch_search::laws::least_certain_energies_exist;
 use ground_list_laws::laws::{one_ground_list, one_marked_ground_list};
 use prefix_laws::laws::one_least_certain;
-use window_laws::laws::{one_marked_window_list, one_window_list};
+use window_laws::laws::{
+    marks_at_zero_are_ground_marks, one_marked_window_list, one_window_list,
+    window_lists_at_zero_are_ground_lists,
+};
 
 /// Within the budget a problem has at most one ground list with its marks, and none where its
 /// ground list is too long; and the budget suffices or does not, and not both.
@@ -33,12 +36,11 @@ pub fn one_answer()
 /// Within a window and a budget a problem has at most one list with its marks, and none where its
 /// window list is too long; and the budget suffices or does not, and not both.
 pub fn one_window_answer()
-    ensures list { (p : Problem) (window : ℤ) (limit : ℕ) (s r : Solved)
-        → IsWindowSolution p window limit s → IsWindowSolution p window limit r
-        → s.list ≡ r.list }
-    ensures length { (p : Problem) (window : ℤ) (limit : ℕ) (s : Solved)
-        → IsWindowSolution p window limit s → length s.list ≤ MAX_ENTRIES
-        → IsWindowTooLongWithin p window limit → ⊥ }
+    ensures list { (p : Problem) (window : ℤ) (limit : ℕ) (es fs : List Entry)
+        → IsWindowListedWithin p window limit es → IsWindowListedWithin p window limit fs
+        → es ≡ fs }
+    ensures length { (p : Problem) (window : ℤ) (limit : ℕ) (es : List Entry)
+        → IsWindowListedWithin p window limit es → IsWindowTooLongWithin p window limit → ⊥ }
     ensures budget { (p : Problem) (window : ℤ) (limit : ℕ)
         → IsWindowWithinBudget p window limit → IsWindowOverBudget p window limit → ⊥ }
     ensures decided { (p : Problem) (window : ℤ) (limit : ℕ) → IsProblem p
@@ -48,6 +50,20 @@ pub fn one_window_answer()
     one_window_list();
     one_marked_window_list();
     one_least_certain();
+}
+
+/// With a window of 0 the answers are those about the ground list: the same lists within the same
+/// budget.
+pub fn window_answers_at_zero()
+    ensures list { (p : Problem) (limit : ℕ) (es : List Entry)
+        → IsWindowListedWithin p (pos 0) limit es ↔ IsListedWithin p limit es }
+    ensures budget { (p : Problem) (limit : ℕ)
+        → IsWindowOverBudget p (pos 0) limit ↔ IsOverBudget p limit }
+    ensures length { (p : Problem) (limit : ℕ)
+        → IsWindowTooLongWithin p (pos 0) limit ↔ IsTooLongWithin p limit }
+{
+    window_lists_at_zero_are_ground_lists();
+    marks_at_zero_are_ground_marks();
 }
 
 /// The list of a solution, where it has at most `MAX_ENTRIES` entries, is the problem's, within the

@@ -8,4 +8,4 @@ mod reach;
 mod solving;
 
 pub use ground_entries::{Deciding, Entry, GroundList, Mark, Solved};
-pub use solving::{SolveAnswer, solve, solve_window};
+pub use solving::{SolveAnswer, solve, solve_within};

@@ -13,12 +13,12 @@ use crate::keeping::contenders;
 use crate::reach::{Reach, reach_of};
 use branch_search::{Bound, least_bound};
 use candidate_marks::window_list_of;
+use ground_entries::{GroundList, Solved};
 use ground_list_laws::laws::{
     certain_entries_are_ground_states, ground_states_are_listed, unresolved_entries_fail,
 };
 use potential_problem::Problem;
 use prefix_laws::laws::{bounds_lie_below, prefixes_are_open};
-use ground_entries::{GroundList, Solved};
 use sidb_io::Gate;
 use sidb_units::{MAX_ENTRIES, MAX_NODES, MAX_WORKERS, Memory};
 use std::alloc::Global;
@@ -74,7 +74,7 @@ fn window_list_in(
         return Ok(None);
     }
     let kept = contenders(alloc, problem, reach, leaves)?;
-    window_list_of(alloc, problem, &reach.window, &kept)
+    window_list_of(alloc, problem, &reach.window, kept)
 }
 
 /// The answer where the tree up to the end of the window has these leaves.
@@ -169,7 +169,7 @@ fn searched<R: Threads + Sync, G: Gate>(
 /// Under every potential table each valid list that is above no valid list by more than the window
 /// is an entry, an entry marked certain is such a list, and the comparison that another names fails
 /// under some table.
-pub fn solve_window<R: Threads + Sync, G: Gate>(
+pub fn solve_within<R: Threads + Sync, G: Gate>(
     rt: &R,
     alloc: Global,
     problem: &Problem,

@@ -7,11 +7,11 @@ ghost use Rattle.candidate_marks.specs.Found.{IsFound, IsWindowFound, CertainAre
 use crate::examining::candidates;
 use candidate_marks::{Candidate, ground_list_of, window_list_of};
 use charge_validity::has_table;
+use ground_entries::GroundList;
 use ground_list_laws::laws::{
     certain_entries_are_ground_states, ground_states_are_listed, unresolved_entries_fail,
 };
 use potential_problem::Problem;
-use ground_entries::GroundList;
 use sidb_units::Memory;
 use std::alloc::Global;
 use window_model::window_of;
@@ -42,7 +42,7 @@ pub fn plain_solve(alloc: Global, problem: &Problem) -> Result<Option<GroundList
     certain_entries_are_ground_states();
     unresolved_entries_fail();
     let all = contenders(alloc, problem)?;
-    ground_list_of(alloc, problem, &all)
+    ground_list_of(alloc, problem, all)
 }
 
 /// All charge lists of a problem that may be valid within `window` of the ground, in 10^-12 V, with
@@ -57,5 +57,5 @@ pub fn plain_window(
     ensures { IfOk result (IsWindowFound problem.now window) }
 {
     let all = contenders(alloc, problem)?;
-    window_list_of(alloc, problem, &window_of(window), &all)
+    window_list_of(alloc, problem, &window_of(window), all)
 }

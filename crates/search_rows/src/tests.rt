@@ -3,11 +3,11 @@ ghost use Rattle.sidb_units.specs.declared.TheConstants.{MAX_NODES};
 ghost use Rattle.window_model.specs.Windows.{IsWindow};
 
 use entry_lines::entry_line;
-use ground_state::{SolveAnswer, solve, solve_window};
+use ground_entries::GroundList;
+use ground_state::{SolveAnswer, solve, solve_within};
 use plain_search::{plain_solve, plain_window};
 use potential_problem::Problem;
 use potential_table::read_table;
-use ground_entries::GroundList;
 use sidb_io::NoGate;
 use sidb_units::{MAX_NODES, Memory};
 use std::alloc::Global;
@@ -160,7 +160,7 @@ fn by_search_within<R: Threads + Sync>(
 ) -> Result<String, Fail>
     requires { IsWindow window }
 {
-    match solve_window(rt, alloc, problem, window, MAX_NODES, 1, &NoGate) {
+    match solve_within(rt, alloc, problem, window, MAX_NODES, 1, &NoGate) {
         SolveAnswer::List(solved) => lines_of(alloc, &solved.list),
         SolveAnswer::Budget => Ok(String::from_str(alloc, "budget")?),
         SolveAnswer::ListTooLong => Ok(String::from_str(alloc, "too long")?),
