@@ -1,5 +1,5 @@
 -- what `certify` answers for a problem: one thing, some thing, and a sound certificate
-use Rattle.std.proofs.Common.{◌≡◌, ◌∙◌, ◌≤◌, inl, inr, sym, subst, refl, ℕ, pos, List, length, Option, ℤ, arith}
+use Rattle.std.proofs.Common.{◌≡◌, ◌∙◌, ◌≤◌, inl, inr, sym, subst, refl, ℕ, pos, List, length, Option, Result, ℤ, arith}
 use Rattle.std.proofs.lemmas.Int.{ints}
 use Rattle.charge_model.specs.Problem.{Problem, IsProblem}
 use Rattle.charge_model.specs.GroundList.{Entry, IsMarkedGroundList, lists_of}
@@ -14,7 +14,9 @@ use Rattle.certificate_model.specs.Certificates.{IsSound}
 use Rattle.walk_model.specs.Walks.{AreWalked}
 use Rattle.certificate_reading.specs.Texts.{IsCertText}
 use Rattle.prune_certificate.specs.Printed.{certificate_text}
-use Rattle.certificate_writing.specs.Writing.{IsOwnCertificate, IsTextUpTo}
+use Rattle.token_sinks.specs.declared.sink.Stop.{Stop}
+use Rattle.certificate_writing.specs.Writing.{IsOwnCertificate, IsTextUpTo, TookText}
+use Rattle.task_certificate.specs.WrittenSo.{IsWrittenSo}
 use Rattle.run_answer.specs.declared.status.Status.{Status}
 use Rattle.run_answer.specs.declared.status.Status.TheVariants.{Answered}
 use Rattle.task_ground.specs.GroundAnswer.{IsGroundAnswer, IsUnlisted}
@@ -44,6 +46,17 @@ solved_due s p solved d is few problem entries bound = record {
   (subst (λ (b : Option ℤ). IsTextUpTo d.problem b solved.list text) bound
   (subst (λ (es : List Entry). IsTextUpTo d.problem d.bound es text) entries whole))));
 }
+
+-- a certificate that is due has a text, of which so much was written
+pub written_so : {A : Type 0} → ((p : Problem) (es : List Entry) (bound : Option ℤ) → IsProblem p → IsMarkedGroundList p es → IsLeastCertain p bound → (tokens : List Token) × AreWalked p (pos 0) bound (lists_of es) tokens)
+    → (d : DueCertificate) → IsProblem d.problem → IsMarkedGroundList d.problem d.entries → IsLeastCertain d.problem d.bound → (old new : Option (List ℕ)) (wrote : Result A Stop) (result : Result (Unit {0}) Stop)
+    → ((text : List ℕ) → TookText old text new wrote → TookText old text new result)
+    → ((text : List ℕ) → IsTextUpTo d.problem d.bound d.entries text → TookText old text new wrote) → IsWrittenSo d old new result
+written_so laws d valid marked least old new wrote result also took =
+    let tokens = laws d.problem d.entries d.bound valid marked least in
+    let text = certificate_text d.problem d.entries tokens.0 in
+    let whole : IsTextUpTo d.problem d.bound d.entries text = record { tokens = tokens.0; walked = tokens.1; prints = refl } in
+    record { text = text; of_due = whole; took = also text (took text whole) }
 
 -- each part of an answer is one
 pub record PartsAreOne : Type 0 where

@@ -9,4 +9,5 @@ pub mod CheckAnswer
 pub mod Told
 pub mod DueCertificate
 pub mod CertificateSeen
+pub mod WrittenSo
 pub mod Delivery

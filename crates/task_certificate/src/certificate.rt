@@ -1,11 +1,19 @@
 ghost use Rattle.std.specs.Prelude.{◌≡◌, ◌≤◌, length};
 ghost use Rattle.charge_model.specs.GroundList.{IsMarkedGroundList};
 ghost use Rattle.charge_model.specs.Tree.{IsLeastCertain, node_count};
+ghost use Rattle.sidb_io.specs.Outside.{HasFault};
 ghost use Rattle.sidb_units.specs.declared.TheConstants.{MAX_ENTRIES, MAX_NODES};
+ghost use Rattle.token_sinks.specs.Taking.{IsFault};
+ghost use Rattle.task_certificate.specs.WrittenSo.{IsWrittenSo};
 
+use certificate_writing::write_certificate;
 use ground_entries::{GroundList, Solved};
 use potential_problem::Problem;
+use sidb_io::Sink;
+use std::alloc::Global;
 use std::marker::Model;
+use token_sinks::Stop;
+use walk_model::laws::ground_lists_have_written_tokens;
 
 /// The certificate of a problem that is due: what its tokens go by, so that it can be written
 /// while it is made.
@@ -46,27 +54,17 @@ impl<'a> CertificateDue<'a> {
         }
     }
 
-    /// The problem.
-    pub fn problem(&self) -> &Problem
-        ensures { result.now ≡ self.now.problem }
+    /// Writes the certificate text while it is made. After an error a front of it was written.
+    #[tactic(auto, using(crate::proofs::Certifying::written_so))]
+    pub fn write<K: Sink>(&self, alloc: Global, sink: &mut K) -> Result<(), Stop>
+        ensures written { IsWrittenSo self.now (K.written sink.old) (K.written sink.new) result }
+        ensures fault { IsFault result → HasFault (K.faults sink.old) (K.faults sink.new) }
     {
-        self.problem
-    }
-
-    /// Its ground list, with its marks.
-    pub fn list(&self) -> &GroundList
-        ensures entries { result.now ≡ self.now.entries }
-        ensures ground { IsMarkedGroundList self.now.problem self.now.entries }
-    {
-        &self.list
-    }
-
-    /// Its least certain energy, in 10^-12 V, where there is one.
-    pub fn bound(&self) -> Option<i64>
-        ensures value { result ≡ self.now.bound }
-        ensures least { IsLeastCertain self.now.problem self.now.bound }
-        ensures few { node_count self.now.problem self.now.bound ≤ MAX_NODES }
-    {
-        self.bound
+        ground_lists_have_written_tokens();
+        let _known = self.problem.sites();
+        match write_certificate(alloc, self.problem, self.bound, &self.list, sink) {
+            Ok(_) => Ok(()),
+            Err(stop) => Err(stop),
+        }
     }
 }
