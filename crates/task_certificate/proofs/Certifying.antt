@@ -48,15 +48,14 @@ solved_due s p solved d is few problem entries bound = record {
 }
 
 -- a certificate that is due has a text, of which so much was written
-pub written_so : {A : Type 0} → ((p : Problem) (es : List Entry) (bound : Option ℤ) → IsProblem p → IsMarkedGroundList p es → IsLeastCertain p bound → (tokens : List Token) × AreWalked p (pos 0) bound (lists_of es) tokens)
-    → (d : DueCertificate) → IsProblem d.problem → IsMarkedGroundList d.problem d.entries → IsLeastCertain d.problem d.bound → (old new : Option (List ℕ)) (wrote : Result A Stop) (result : Result (Unit {0}) Stop)
-    → ((text : List ℕ) → TookText old text new wrote → TookText old text new result)
-    → ((text : List ℕ) → IsTextUpTo d.problem d.bound d.entries text → TookText old text new wrote) → IsWrittenSo d old new result
-written_so laws d valid marked least old new wrote result also took =
+pub written_so : ((p : Problem) (es : List Entry) (bound : Option ℤ) → IsProblem p → IsMarkedGroundList p es → IsLeastCertain p bound → (tokens : List Token) × AreWalked p (pos 0) bound (lists_of es) tokens)
+    → (d : DueCertificate) → IsProblem d.problem → IsMarkedGroundList d.problem d.entries → IsLeastCertain d.problem d.bound → (old new : Option (List ℕ)) (result : Result (Unit {0}) Stop)
+    → ((text : List ℕ) → IsTextUpTo d.problem d.bound d.entries text → TookText old text new result) → IsWrittenSo d old new result
+written_so laws d valid marked least old new result took =
     let tokens = laws d.problem d.entries d.bound valid marked least in
     let text = certificate_text d.problem d.entries tokens.0 in
     let whole : IsTextUpTo d.problem d.bound d.entries text = record { tokens = tokens.0; walked = tokens.1; prints = refl } in
-    record { text = text; of_due = whole; took = also text (took text whole) }
+    record { text = text; of_due = whole; took = took text whole }
 
 -- each part of an answer is one
 pub record PartsAreOne : Type 0 where

@@ -55,7 +55,6 @@ impl<'a> CertificateDue<'a> {
     }
 
     /// Writes the certificate text while it is made. After an error a front of it was written.
-    #[tactic(auto, using(crate::proofs::Certifying::written_so))]
     pub fn write<K: Sink>(&self, alloc: Global, sink: &mut K) -> Result<(), Stop>
         ensures written { IsWrittenSo self.now (K.written sink.old) (K.written sink.new) result }
         ensures fault { IsFault result → HasFault (K.faults sink.old) (K.faults sink.new) }
