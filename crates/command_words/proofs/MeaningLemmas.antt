@@ -3,19 +3,21 @@ use Rattle.std.proofs.Common.{◌≡◌, ◌∙◌, sym, ap, subst, refl, inl, i
 use Rattle.clap.specs.Walk.{Text}
 use Rattle.sidb_units.specs.Decimal.{IsReadAs}
 use Rattle.std.proofs.Props.{props}
+use Rattle.window_model.specs.declared.window.Window.{Window}
+use Rattle.window_model.specs.Windows.{IsWindow}
 use Rattle.model_params.specs.declared.params.Params.{Params}
 use Rattle.model_params.specs.declared.quantity.Quantity.{Quantity}
 use Rattle.model_params.specs.Quantities.{coulomb_number, level_depth, level_gap, permittivity, screening_length}
 use Rattle.command_words.specs.declared.settings.Settings.{Settings}
 use Rattle.command_words.specs.declared.settings.SearchSettings.{SearchSettings}
+use Rattle.command_words.specs.declared.settings.LevelSettings.{LevelSettings}
 use Rattle.command_words.specs.declared.settings.ReportSettings.{ReportSettings}
 use Rattle.command_words.specs.declared.settings.Task.{Task}
-use Rattle.command_words.specs.declared.settings.Task.TheVariants.{Ground, Potentials}
 use Rattle.command_words.specs.declared.settings.Form.{Form}
-use Rattle.command_words.specs.declared.settings.Form.TheVariants.{Sites, Sqd, Table}
-use Rattle.command_words.specs.Limits.{AreSearchLimits, node_limit, worker_count}
-use Rattle.command_words.specs.Options.{IsBase, IsChoice, IsGiven, IsNumber}
-use Rattle.command_words.specs.Settings.{AreParams, AreReportSettings, AreSearchSettings, AreSettings, form_name, task_name}
+use Rattle.command_words.specs.Limits.{AreSearchLimits, node_limit, window_width, worker_count}
+use Rattle.command_words.specs.Options.{IsBase, IsGiven, IsNumber}
+use Rattle.command_words.specs.Settings.{AreLevelSettings, AreParams, AreReportSettings, AreSearchSettings, AreSettings}
+use Rattle.command_words.proofs.Choices.{one_form, one_task}
 
 -- a text is read as one number
 abbrev pub IsReadOnce : Type 0
@@ -29,6 +31,7 @@ one_number : IsReadOnce → (q : Quantity) (given : Option Text) (v w : ℤ) →
 one_number once q None v w e f = e ∙ sym f
 one_number once q (Some text) v w e f = once text q.places q.least q.greatest v w e f
 
+-- `2` is not `3`
 two_is_not_three : (text : Text) → text ≡ codes "2" → text ≡ codes "3" → ⊥
 two_is_not_three text e f = let first : ◌≡◌ {A = ℕ} 50 51 = ap (λ t. slice_index_or t 0 0) (sym e ∙ f) in absurd (omega (arith, first))
 
@@ -39,32 +42,7 @@ one_base (Some text) a b (inl e) (inr f) = absurd (two_is_not_three text e.0 f.0
 one_base (Some text) a b (inr e) (inl f) = absurd (two_is_not_three text f.0 e.0)
 one_base (Some text) a b (inr e) (inr f) = e.1 ∙ sym f.1
 
--- two texts that differ at a place are not the same
-differ : (i x y : ℕ) (s t : Text) → slice_index_or s i 0 ≡ x → slice_index_or t i 0 ≡ y → (x ≡ y → ⊥) → s ≡ t → ⊥
-differ i x y s t at also not same = not (sym at ∙ ap (λ (u : Text). slice_index_or u i 0) same ∙ also)
-
--- no two tasks, and no two forms, have one name
-one_task : (a b : Task) → task_name a ≡ task_name b → a ≡ b
-one_task Ground Ground e = refl
-one_task Potentials Potentials e = refl
-one_task Ground Potentials e = absurd (differ 0 103 112 _ _ refl refl (λ f. omega (arith, f)) e)
-one_task Potentials Ground e = absurd (differ 0 112 103 _ _ refl refl (λ f. omega (arith, f)) e)
-
-one_form : (a b : Form) → form_name a ≡ form_name b → a ≡ b
-one_form Sites Sites e = refl
-one_form Sqd Sqd e = refl
-one_form Table Table e = refl
-one_form Sites Table e = absurd (differ 0 115 116 _ _ refl refl (λ f. omega (arith, f)) e)
-one_form Table Sites e = absurd (differ 0 116 115 _ _ refl refl (λ f. omega (arith, f)) e)
-one_form Sites Sqd e = absurd (differ 1 105 113 _ _ refl refl (λ f. omega (arith, f)) e)
-one_form Sqd Sites e = absurd (differ 1 113 105 _ _ refl refl (λ f. omega (arith, f)) e)
-one_form Sqd Table e = absurd (differ 0 115 116 _ _ refl refl (λ f. omega (arith, f)) e)
-one_form Table Sqd e = absurd (differ 0 116 115 _ _ refl refl (λ f. omega (arith, f)) e)
-
-one_choice : {A : Type 0} → (name_of : A → Text) → ((a b : A) → name_of a ≡ name_of b → a ≡ b) → (preset : A) (given : Option Text) (a b : A) → IsChoice name_of preset given a → IsChoice name_of preset given b → a ≡ b
-one_choice name_of one preset None a b e f = e ∙ sym f
-one_choice name_of one preset (Some text) a b e f = one a b (sym e ∙ f)
-
+-- a flag is given, or is not
 one_flag : (told : Option Text) (a b : Bool) → IsGiven told a → IsGiven told b → a ≡ b
 one_flag told true true e f = refl
 one_flag told false false e f = refl
@@ -115,6 +93,28 @@ one_search once value s t a b =
 same_report : (a b c d : Bool) → a ≡ b → c ≡ d → ◌≡◌ {A = ReportSettings} (record { json = a; energies = c }) (record { json = b; energies = d })
 same_report a b c d json energies = cc
 
+-- there is one proof that a width is in range
+one_width : (width : ℤ) (a b : IsWindow width) → a ≡ b
+one_width width = hlevel props
+
+-- a window is given by its width
+one_window : (v w : Window) → v.width ≡ w.width → v ≡ w
+one_window v w same = by v.width w.width same v.is_window w.is_window
+  where
+    made : (width : ℤ) → IsWindow width → Window
+    made width is = record { width = width; is_window = is }
+
+    by : (a b : ℤ) → a ≡ b → (x : IsWindow a) (y : IsWindow b) → made a x ≡ made b y
+    by a b same = subst (λ (e : ℤ). (x : IsWindow a) (y : IsWindow e) → made a x ≡ made e y) same (λ x y. ap (made a) (one_width a x y))
+
+-- how far lists are looked for has one meaning
+one_level : IsReadOnce → (value : Text → Option Text) (l m : LevelSettings) → AreLevelSettings value l → AreLevelSettings value m → l ≡ m
+one_level once value l m a b =
+    ap made (one_window l.window m.window (one_number once window_width (value (codes "window")) l.window.width m.window.width a.window b.window))
+  where
+    made : Window → LevelSettings
+    made window = record { window = window }
+
 -- the settings of a report have one meaning
 one_report : (value : Text → Option Text) (r t : ReportSettings) → AreReportSettings value r → AreReportSettings value t → r ≡ t
 one_report value r t a b =
@@ -123,15 +123,16 @@ one_report value r t a b =
     (one_flag (value (codes "energies")) r.energies t.energies a.energies b.energies)
 
 -- settings are given by their groups
-same_settings : (t u : Task) (f h : Form) (p q : Params) (s r : SearchSettings) (m n : ReportSettings) → t ≡ u → f ≡ h → p ≡ q → s ≡ r → m ≡ n
-    → ◌≡◌ {A = Settings} (record { task = t; form = f; params = p; search = s; report = m }) (record { task = u; form = h; params = q; search = r; report = n })
-same_settings t u f h p q s r m n task form params search report = cc
+same_settings : (t u : Task) (f h : Form) (p q : Params) (s r : SearchSettings) (m n : ReportSettings) (l k : LevelSettings) → t ≡ u → f ≡ h → p ≡ q → s ≡ r → m ≡ n → l ≡ k
+    → ◌≡◌ {A = Settings} (record { task = t; form = f; params = p; search = s; report = m; levels = l }) (record { task = u; form = h; params = q; search = r; report = n; levels = k })
+same_settings t u f h p q s r m n l k task form params search report levels = cc
 
 pub one_settings : IsReadOnce → AreGivenByNumbers → (value : Text → Option Text) (a b : Settings) → AreSettings value a → AreSettings value b → a ≡ b
 one_settings once given value a b e f =
-    same_settings a.task b.task a.form b.form a.params b.params a.search b.search a.report b.report
-    (one_choice task_name one_task Ground (value (codes "task")) a.task b.task e.task f.task)
-    (one_choice form_name one_form Sites (value (codes "form")) a.form b.form e.form f.form)
+    same_settings a.task b.task a.form b.form a.params b.params a.search b.search a.report b.report a.levels b.levels
+    (one_task (value (codes "task")) a.task b.task e.task f.task)
+    (one_form (value (codes "form")) a.form b.form e.form f.form)
     (one_params once given value a.params b.params e.params f.params)
     (one_search once value a.search b.search e.search f.search)
     (one_report value a.report b.report e.report f.report)
+    (one_level once value a.levels b.levels e.levels f.levels)

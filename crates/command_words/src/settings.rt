@@ -1,6 +1,7 @@
 ghost use Rattle.command_words.specs.Limits.{AreSearchLimits};
 
 use model_params::Params;
+use window_model::Window;
 
 /// What a run does.
 #[derive(Clone, Copy, Debug, PartialEq, Eq)]
@@ -9,6 +10,12 @@ pub enum Task {
     Ground,
     /// Prints the table text of a problem.
     Potentials,
+    /// Prints the certificate of a problem's ground list.
+    Certify,
+    /// Checks a certificate.
+    Check,
+    /// Prints the window list of a problem.
+    Window,
 }
 
 /// The form of a run's input.
@@ -32,6 +39,13 @@ pub struct SearchSettings {
     ghost in_range: { AreSearchLimits limit workers },
 }
 
+/// How far around the ground, and around the levels, lists are looked for.
+#[derive(Clone, Copy)]
+pub struct LevelSettings {
+    /// How far above the ground lists are looked for.
+    pub window: Window,
+}
+
 /// What a report has, and how it is written.
 #[derive(Clone, Copy, Debug, PartialEq, Eq)]
 pub struct ReportSettings {
@@ -42,11 +56,12 @@ pub struct ReportSettings {
 }
 
 /// What the words of a run ask for.
-#[derive(Clone, Copy, Debug, PartialEq, Eq)]
+#[derive(Clone, Copy)]
 pub struct Settings {
     pub task: Task,
     pub form: Form,
     pub params: Params,
     pub search: SearchSettings,
     pub report: ReportSettings,
+    pub levels: LevelSettings,
 }
