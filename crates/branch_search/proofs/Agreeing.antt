@@ -1,5 +1,5 @@
 -- two answers of a search agree
-use Rattle.std.proofs.Common.{◌≡◌, ℕ, ◌<◌, ℤ, ◌≤ℤ◌, ◌<ℤ◌, refl, sym, ap, subst, arith, Some}
+use Rattle.std.proofs.Common.{◌≡◌, ℕ, ◌<◌, ℤ, refl, ap, subst, arith, Some}
 use Rattle.std.specs.Prelude.{Option, None}
 use Rattle.std.proofs.lemmas.Int.{ints}
 use Rattle.charge_model.specs.Problem.{Problem}

@@ -1,5 +1,5 @@
-use potential_problem::Problem;
 use ground_entries::GroundList;
+use potential_problem::Problem;
 
 /// A certificate text up to its tokens: the problem, the list, the place just behind the line
 /// feed of the line `tokens`, and the number of tokens.

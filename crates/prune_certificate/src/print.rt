@@ -9,9 +9,9 @@ ghost use Rattle.certificate_reading.specs.Texts.{head_words};
 ghost use Rattle.prune_certificate.specs.Printed.{entry_part, head_text};
 
 use entry_lines::entry_line;
+use ground_entries::{Entry, GroundList};
 use potential_problem::Problem;
 use potential_table::print_table;
-use ground_entries::{Entry, GroundList};
 use sidb_units::Memory;
 use std::alloc::Global;
 use text_rows::push_bytes;

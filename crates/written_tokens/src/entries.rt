@@ -5,8 +5,8 @@ ghost use Rattle.written_tokens.specs.Listing.{AreEntriesOf};
 
 use crate::steps::{Step, all_steps};
 use entry_facts::{EntryFacts, all_facts};
-use potential_problem::Problem;
 use ground_entries::GroundList;
+use potential_problem::Problem;
 use sidb_units::Memory;
 use std::alloc::Global;
 use window_model::Window;

@@ -1,7 +1,6 @@
-use Rattle.std.proofs.Common.{◌≡◌, ◌<◌, ◌*◌, arith, subst, FitsSigned, w64, to_z, of_z, ℤ, Some}
-use Rattle.std.proofs.lemmas.Int.{ints, to_z-of_z}
+use Rattle.std.proofs.Common.{◌<◌, ◌*◌, arith, subst, FitsSigned, w64, Some}
+use Rattle.std.proofs.lemmas.Int.{to_z-of_z}
 use Rattle.charge_model.specs.Tree.{node_count}
-use Rattle.branch_search.specs.declared.rounds.RoundAnswer.TheVariants.{Done, Exceeded}
 use Rattle.branch_search.specs.Rounds.{IsSearched}
 use Rattle.branch_search.proofs.Answering.{lower_range}
 use Rattle.branch_search.proofs.halving.left_by.Goals as goal

@@ -1,9 +1,6 @@
-use Rattle.std.proofs.Common.{◌≡◌, ◌*◌, [], arith, subst, FitsSigned, w64, to_z, of_z, ℤ}
-use Rattle.std.specs.Prelude.{Option, None}
-use Rattle.std.proofs.lemmas.Int.{ints, to_z-of_z}
-use Rattle.charge_model.specs.Tree.{node_count}
+use Rattle.std.proofs.Common.{◌*◌, [], arith, subst, FitsSigned, w64}
+use Rattle.std.proofs.lemmas.Int.{to_z-of_z}
 use Rattle.branch_search.specs.declared.rounds.RoundAnswer.TheVariants.{Done}
-use Rattle.branch_search.specs.Bounds.{IsPassed}
 use Rattle.branch_search.specs.Rounds.{IsSearched}
 use Rattle.branch_search.proofs.Answering.{passed_says, passed_narrower, HaveNoFewer}
 use Rattle.branch_search.proofs.halving.left_with.Goals as goal

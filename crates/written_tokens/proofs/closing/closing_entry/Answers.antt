@@ -27,7 +27,7 @@ unreachable-requires c =
     let short = subst (λ x. length q ≤ x.sites) c.requires.problem c.len-short.ensures.short in
     let opens : IsOpen p q = open_is p q (c.nodes_are_tested.ensures p None q short) c.requires.opens in
     let never : IsNode p o q → ⊥ = λ node.
-        false≢true (sym c.if-is_within.false ∙ c.is_within.ensures.1 (subst (λ b. IfSome o (λ most. b ≤ℤ most)) (sym c.bound_of-bound.ensures) node.within)) in
+    false≢true (sym c.if-is_within.false ∙ c.is_within.ensures.1 (subst (λ b. IfSome o (λ most. b ≤ℤ most)) (sym c.bound_of-bound.ensures) node.within)) in
     let below = subst (λ b. AreNotBelow c.as_slice.result.now (length c.as_slice.result.now) b) c.bound_of-bound.ensures c.in-None.ensures.none in
     let steps = subst (λ s. AreNotBelow s (length s) (low p q)) c.as_slice.ensures.value below in
     closing_some p w o l q ((c.sites_keep_prefixes_open.ensures p q short).0 opens)
@@ -42,7 +42,7 @@ returns-clause-found c =
     let short = subst (λ x. length q ≤ x.sites) c.requires.problem c.len-short.ensures.short in
     let opens : IsOpen p q = open_is p q (c.nodes_are_tested.ensures p None q short) c.requires.opens in
     let never : IsNode p o q → ⊥ = λ node.
-        false≢true (sym c.if-is_within.false ∙ c.is_within.ensures.1 (subst (λ b. IfSome o (λ most. b ≤ℤ most)) (sym c.bound_of-bound.ensures) node.within)) in
+    false≢true (sym c.if-is_within.false ∙ c.is_within.ensures.1 (subst (λ b. IfSome o (λ most. b ≤ℤ most)) (sym c.bound_of-bound.ensures) node.within)) in
     let below = subst (λ b. IsFirstBelow c.as_slice.result.now b c.in-Some.j) c.bound_of-bound.ensures c.in-Some.ensures.found in
     let step = subst (λ s. IsFirstBelow s (low p q) c.in-Some.j) c.as_slice.ensures.value below in (
       record { opens = opens; above = never },

@@ -1,0 +1,2 @@
+pub use Rattle.prune_certificate.specs.Printed
+pub mod Writing
