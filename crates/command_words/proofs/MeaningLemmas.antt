@@ -3,17 +3,20 @@ use Rattle.std.proofs.Common.{◌≡◌, ◌∙◌, sym, ap, subst, refl, inl, i
 use Rattle.clap.specs.Walk.{Text}
 use Rattle.sidb_units.specs.Decimal.{IsReadAs}
 use Rattle.std.proofs.Props.{props}
+use Rattle.window_model.specs.declared.window.Window.{Window}
+use Rattle.window_model.specs.Windows.{IsWindow}
 use Rattle.model_params.specs.declared.params.Params.{Params}
 use Rattle.model_params.specs.declared.quantity.Quantity.{Quantity}
 use Rattle.model_params.specs.Quantities.{coulomb_number, level_depth, level_gap, permittivity, screening_length}
 use Rattle.command_words.specs.declared.settings.Settings.{Settings}
 use Rattle.command_words.specs.declared.settings.SearchSettings.{SearchSettings}
+use Rattle.command_words.specs.declared.settings.LevelSettings.{LevelSettings}
 use Rattle.command_words.specs.declared.settings.ReportSettings.{ReportSettings}
 use Rattle.command_words.specs.declared.settings.Task.{Task}
 use Rattle.command_words.specs.declared.settings.Form.{Form}
-use Rattle.command_words.specs.Limits.{AreSearchLimits, node_limit, worker_count}
+use Rattle.command_words.specs.Limits.{AreSearchLimits, node_limit, window_width, worker_count}
 use Rattle.command_words.specs.Options.{IsBase, IsGiven, IsNumber}
-use Rattle.command_words.specs.Settings.{AreParams, AreReportSettings, AreSearchSettings, AreSettings}
+use Rattle.command_words.specs.Settings.{AreLevelSettings, AreParams, AreReportSettings, AreSearchSettings, AreSettings}
 use Rattle.command_words.proofs.Choices.{one_form, one_task}
 
 -- a text is read as one number
@@ -90,6 +93,28 @@ one_search once value s t a b =
 same_report : (a b c d : Bool) → a ≡ b → c ≡ d → ◌≡◌ {A = ReportSettings} (record { json = a; energies = c }) (record { json = b; energies = d })
 same_report a b c d json energies = cc
 
+-- there is one proof that a width is in range
+one_width : (width : ℤ) (a b : IsWindow width) → a ≡ b
+one_width width = hlevel props
+
+-- a window is given by its width
+one_window : (v w : Window) → v.width ≡ w.width → v ≡ w
+one_window v w same = by v.width w.width same v.is_window w.is_window
+  where
+    made : (width : ℤ) → IsWindow width → Window
+    made width is = record { width = width; is_window = is }
+
+    by : (a b : ℤ) → a ≡ b → (x : IsWindow a) (y : IsWindow b) → made a x ≡ made b y
+    by a b same = subst (λ (e : ℤ). (x : IsWindow a) (y : IsWindow e) → made a x ≡ made e y) same (λ x y. ap (made a) (one_width a x y))
+
+-- how far lists are looked for has one meaning
+one_level : IsReadOnce → (value : Text → Option Text) (l m : LevelSettings) → AreLevelSettings value l → AreLevelSettings value m → l ≡ m
+one_level once value l m a b =
+    ap made (one_window l.window m.window (one_number once window_width (value (codes "window")) l.window.width m.window.width a.window b.window))
+  where
+    made : Window → LevelSettings
+    made window = record { window = window }
+
 -- the settings of a report have one meaning
 one_report : (value : Text → Option Text) (r t : ReportSettings) → AreReportSettings value r → AreReportSettings value t → r ≡ t
 one_report value r t a b =
@@ -98,15 +123,16 @@ one_report value r t a b =
     (one_flag (value (codes "energies")) r.energies t.energies a.energies b.energies)
 
 -- settings are given by their groups
-same_settings : (t u : Task) (f h : Form) (p q : Params) (s r : SearchSettings) (m n : ReportSettings) → t ≡ u → f ≡ h → p ≡ q → s ≡ r → m ≡ n
-    → ◌≡◌ {A = Settings} (record { task = t; form = f; params = p; search = s; report = m }) (record { task = u; form = h; params = q; search = r; report = n })
-same_settings t u f h p q s r m n task form params search report = cc
+same_settings : (t u : Task) (f h : Form) (p q : Params) (s r : SearchSettings) (m n : ReportSettings) (l k : LevelSettings) → t ≡ u → f ≡ h → p ≡ q → s ≡ r → m ≡ n → l ≡ k
+    → ◌≡◌ {A = Settings} (record { task = t; form = f; params = p; search = s; report = m; levels = l }) (record { task = u; form = h; params = q; search = r; report = n; levels = k })
+same_settings t u f h p q s r m n l k task form params search report levels = cc
 
 pub one_settings : IsReadOnce → AreGivenByNumbers → (value : Text → Option Text) (a b : Settings) → AreSettings value a → AreSettings value b → a ≡ b
 one_settings once given value a b e f =
-    same_settings a.task b.task a.form b.form a.params b.params a.search b.search a.report b.report
+    same_settings a.task b.task a.form b.form a.params b.params a.search b.search a.report b.report a.levels b.levels
     (one_task (value (codes "task")) a.task b.task e.task f.task)
     (one_form (value (codes "form")) a.form b.form e.form f.form)
     (one_params once given value a.params b.params e.params f.params)
     (one_search once value a.search b.search e.search f.search)
     (one_report value a.report b.report e.report f.report)
+    (one_level once value a.levels b.levels e.levels f.levels)

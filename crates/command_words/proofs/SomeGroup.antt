@@ -4,11 +4,13 @@ use Rattle.std.proofs.lemmas.Int.{ints}
 use Rattle.model_params.specs.declared.params.Params.{Params}
 use Rattle.model_params.specs.Quantities.{coulomb_number, level_depth, level_gap, permittivity, screening_length}
 use Rattle.model_params.specs.Params.{AreInRange}
+use Rattle.window_model.specs.Windows.{IsWindow}
+use Rattle.command_words.specs.declared.settings.LevelSettings.{LevelSettings}
 use Rattle.command_words.specs.declared.settings.SearchSettings.{SearchSettings}
 use Rattle.command_words.specs.declared.settings.ReportSettings.{ReportSettings}
-use Rattle.command_words.specs.Limits.{AreSearchLimits, node_limit, worker_count}
+use Rattle.command_words.specs.Limits.{AreSearchLimits, node_limit, window_width, worker_count}
 use Rattle.command_words.specs.Options.{IsBase, IsGiven, IsNumber}
-use Rattle.command_words.specs.Settings.{AreParams, AreReportSettings, AreSearchSettings}
+use Rattle.command_words.specs.Settings.{AreLevelSettings, AreParams, AreReportSettings, AreSearchSettings}
 use Rattle.command_words.proofs.Decided.{Both, HasSomeOrNone, both, moved}
 use Rattle.command_words.proofs.SomeOption.{AreReadings, base_within, number_within, some_base, some_count, some_flag, some_number}
 
@@ -36,6 +38,12 @@ limits_in_range value limit workers is_limit is_workers = record {
   limit_within = number_within node_limit (value (codes "limit")) (pos limit) (omega (arith, ints)) (omega (arith, ints)) is_limit;
   workers_within = number_within worker_count (value (codes "workers")) (pos workers) (omega (arith, ints)) (omega (arith, ints)) is_workers;
 }
+
+-- the width of a window is in range
+window_in_range : (told : Option (List ℕ)) (width : ℤ) → IsNumber window_width told width → IsWindow width
+window_in_range told width is =
+    let within = number_within window_width told width (omega (arith, ints)) (omega (arith, ints)) is in
+    record { least = within.from; greatest = within.to }
 
 module _ (readings : AreReadings) (value : List ℕ → Option (List ℕ)) where
   -- the numbers of the options of the depth and the gap of the levels
@@ -118,3 +126,13 @@ module _ (readings : AreReadings) (value : List ℕ → Option (List ℕ)) where
 
       back : (r : ReportSettings) → AreReportSettings value r → (x : Bool × Bool) × Flags x
       back r are = ((r.json, r.energies), (are.json, are.energies))
+
+  -- the option gives a window, or gives none
+  pub some_levels : HasSomeOrNone (AreLevelSettings value)
+  some_levels = moved (IsNumber window_width (value (codes "window"))) (AreLevelSettings value) to back (some_number readings window_width (value (codes "window")))
+    where
+      to : (width : ℤ) → IsNumber window_width (value (codes "window")) width → (l : LevelSettings) × AreLevelSettings value l
+      to width is = (record { window = record { width = width; is_window = window_in_range (value (codes "window")) width is } }, record { window = is })
+
+      back : (l : LevelSettings) → AreLevelSettings value l → (width : ℤ) × IsNumber window_width (value (codes "window")) width
+      back l are = (l.window.width, are.window)

@@ -2,6 +2,7 @@
 use Rattle.std.proofs.Common.{◌≡◌, ℕ, List, [], ◌⊎◌, inl, inr, Option, codes}
 use Rattle.model_params.specs.declared.params.Params.{Params}
 use Rattle.command_words.specs.declared.settings.Settings.{Settings}
+use Rattle.command_words.specs.declared.settings.LevelSettings.{LevelSettings}
 use Rattle.command_words.specs.declared.settings.SearchSettings.{SearchSettings}
 use Rattle.command_words.specs.declared.settings.ReportSettings.{ReportSettings}
 use Rattle.command_words.specs.declared.settings.Task.{Task}
@@ -10,11 +11,11 @@ use Rattle.command_words.specs.declared.settings.Form.{Form}
 use Rattle.command_words.specs.declared.settings.Form.TheVariants.{Sites}
 use Rattle.command_words.specs.Command.{refusals_of, value_of}
 use Rattle.command_words.specs.Options.{IsChoice}
-use Rattle.command_words.specs.Settings.{AreParams, AreReportSettings, AreSearchSettings, AreSettings, IsSettingsOf, form_name, task_name}
+use Rattle.command_words.specs.Settings.{AreLevelSettings, AreParams, AreReportSettings, AreSearchSettings, AreSettings, IsSettingsOf, form_name, task_name}
 use Rattle.command_words.proofs.Decided.{Both, HasSomeOrNone, both, empty_decided, moved}
 use Rattle.command_words.proofs.Choices.{some_form, some_task}
 use Rattle.command_words.proofs.SomeOption.{AreReadings}
-use Rattle.command_words.proofs.SomeGroup.{some_params, some_report, some_search}
+use Rattle.command_words.proofs.SomeGroup.{some_levels, some_params, some_report, some_search}
 
 module _ (readings : AreReadings) (value : List ℕ → Option (List ℕ)) where
   -- the task and the form
@@ -22,11 +23,11 @@ module _ (readings : AreReadings) (value : List ℕ → Option (List ℕ)) where
   Choices = Both (IsChoice task_name Ground (value (codes "task"))) (IsChoice form_name Sites (value (codes "form")))
 
   -- the groups of what is searched
-  abbrev Searched : Params × SearchSettings → Type 0
-  Searched = Both (AreParams value) (AreSearchSettings value)
+  abbrev Searched : Params × (SearchSettings × LevelSettings) → Type 0
+  Searched = Both (AreParams value) (Both (AreSearchSettings value) (AreLevelSettings value))
 
   -- all groups
-  abbrev Groups : (Task × Form) × ((Params × SearchSettings) × ReportSettings) → Type 0
+  abbrev Groups : (Task × Form) × ((Params × (SearchSettings × LevelSettings)) × ReportSettings) → Type 0
   Groups = Both Choices (Both Searched (AreReportSettings value))
 
   -- the options have such values, or have none
@@ -35,21 +36,22 @@ module _ (readings : AreReadings) (value : List ℕ → Option (List ℕ)) where
       both Choices (Both Searched (AreReportSettings value))
       (both (IsChoice task_name Ground (value (codes "task"))) (IsChoice form_name Sites (value (codes "form"))) (some_task (value (codes "task"))) (some_form (value (codes "form"))))
       (both Searched (AreReportSettings value)
-      (both (AreParams value) (AreSearchSettings value) (some_params readings value) (some_search readings value))
+      (both (AreParams value) (Both (AreSearchSettings value) (AreLevelSettings value)) (some_params readings value)
+      (both (AreSearchSettings value) (AreLevelSettings value) (some_search readings value) (some_levels readings value)))
       (some_report readings value))
 
   -- so they give settings, or give none
   some_settings : HasSomeOrNone (AreSettings value)
   some_settings = moved Groups (AreSettings value) to back some_groups
     where
-      to : (x : (Task × Form) × ((Params × SearchSettings) × ReportSettings)) → Groups x → (s : Settings) × AreSettings value s
-      to ((task, form), ((params, search), report)) ((is_task, is_form), ((are_params, are_search), are_report)) = (
-        record { task = task; form = form; params = params; search = search; report = report },
-        record { task = is_task; form = is_form; params = are_params; search = are_search; report = are_report },
+      to : (x : (Task × Form) × ((Params × (SearchSettings × LevelSettings)) × ReportSettings)) → Groups x → (s : Settings) × AreSettings value s
+      to ((task, form), ((params, (search, levels)), report)) ((is_task, is_form), ((are_params, (are_search, are_levels)), are_report)) = (
+        record { task = task; form = form; params = params; search = search; report = report; levels = levels },
+        record { task = is_task; form = is_form; params = are_params; search = are_search; report = are_report; levels = are_levels },
       )
 
-      back : (s : Settings) → AreSettings value s → (x : (Task × Form) × ((Params × SearchSettings) × ReportSettings)) × Groups x
-      back s are = (((s.task, s.form), ((s.params, s.search), s.report)), ((are.task, are.form), ((are.params, are.search), are.report)))
+      back : (s : Settings) → AreSettings value s → (x : (Task × Form) × ((Params × (SearchSettings × LevelSettings)) × ReportSettings)) × Groups x
+      back s are = (((s.task, s.form), ((s.params, (s.search, s.levels)), s.report)), ((are.task, are.form), ((are.params, (are.search, are.levels)), are.report)))
 
 -- words mean settings, or mean none
 pub settings_or_none : AreReadings → (words : List (List ℕ)) → HasSomeOrNone (IsSettingsOf words)

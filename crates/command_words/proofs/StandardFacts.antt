@@ -1,8 +1,9 @@
 -- what the definition of the command says of some lists of words
-use Rattle.std.proofs.Common.{◌≡◌, refl, [], ◌∷◌, Some, None, false, codes, arith}
+use Rattle.std.proofs.Common.{◌≡◌, refl, [], ◌∷◌, Some, None, false, codes, pos, arith}
 use Rattle.std.proofs.lemmas.Int.{ints}
 use Rattle.clap.specs.declared.error.kind.ErrorKind.TheVariants as kind
 use Rattle.clap.proofs.OnLiterals.{clap_on_literals}
+use Rattle.window_model.specs.declared.window.Window.{Window}
 use Rattle.command_words.specs.declared.settings.Settings.{Settings}
 use Rattle.command_words.specs.declared.settings.SearchSettings.{SearchSettings}
 use Rattle.command_words.specs.declared.settings.Task.TheVariants.{Ground}
@@ -90,6 +91,10 @@ preset_search = record {
   };
 }
 
+-- a window of 0 V
+abbrev pub no_window : Window
+no_window = record { width = pos 0; is_window = record { least = omega (arith, ints); greatest = omega (arith, ints) } }
+
 -- no words mean the preset settings
 abbrev pub preset : Settings
 preset = record {
@@ -98,6 +103,7 @@ preset = record {
   params = preset_params;
   search = preset_search;
   report = record { json = false; energies = false };
+  levels = record { window = no_window };
 }
 
 pub preset_settings : AreSettings (value_of []) preset
@@ -108,6 +114,7 @@ preset_settings = record {
   params = record { coulomb = refl; eps = refl; lam = refl; depth = refl; gap = refl; base = refl };
   search = record { limit = refl; workers = refl };
   report = record { json = (λ given. absurd (cc), λ e. absurd (cc)); energies = (λ given. absurd (cc), λ e. absurd (cc)) };
+  levels = record { window = refl };
 }
 
 pub no_words_mean_preset : IsSettingsOf [] preset

@@ -1,4 +1,4 @@
--- the ranges of the limits of a search
+-- the ranges of numbers that options give, but for the parameters
 use Rattle.std.specs.Prelude.{ℕ, pos}
 use Rattle.model_params.specs.declared.quantity.Quantity.{Quantity}
 use Rattle.model_params.specs.Quantities.{IsWithin}
@@ -10,6 +10,10 @@ node_limit = record { places = 0; least = pos 1; greatest = pos 10000000; preset
 -- the number of workers: from 1 to 16, else 4
 abbrev pub worker_count : Quantity
 worker_count = record { places = 0; least = pos 1; greatest = pos 16; preset = pos 4 }
+
+-- how far above the ground lists are looked for, in 10^-12 V: from 0 V to 2 V, else 0 V
+abbrev pub window_width : Quantity
+window_width = record { places = 12; least = pos 0; greatest = pos 2000000000000; preset = pos 0 }
 
 -- the limits of a search are in their ranges
 pub record AreSearchLimits (limit workers : ℕ) : Type 0 where

@@ -18,6 +18,7 @@ pub fn task_in(given: Option<&str>) -> Option<Task>
         Some("potentials") => Some(Task::Potentials),
         Some("certify") => Some(Task::Certify),
         Some("check") => Some(Task::Check),
+        Some("window") => Some(Task::Window),
         Some(_) => None,
     }
 }

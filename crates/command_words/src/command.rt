@@ -6,8 +6,9 @@ use clap::{Arg, ArgAction, Command};
 use std::alloc::{AllocError, Global};
 
 /// The names of the options, each of which takes one text.
-const OPTION_NAMES: [&str; 10] = [
+const OPTION_NAMES: [&str; 11] = [
     "task", "form", "eps", "lambda", "depth", "gap", "coulomb", "base", "limit", "workers",
+    "window",
 ];
 
 /// The command with one more option of this name.

@@ -2,14 +2,16 @@
 ghost use Rattle.std.specs.Prelude.{IfSome, IfNone};
 ghost use Rattle.clap.specs.Words.{first_value, found_of};
 ghost use Rattle.model_params.specs.declared.params.Params.{Params};
+ghost use Rattle.command_words.specs.declared.settings.LevelSettings.{LevelSettings};
 ghost use Rattle.command_words.specs.declared.settings.SearchSettings.{SearchSettings};
-ghost use Rattle.command_words.specs.Settings.{AreParams, AreReportSettings, AreSearchSettings};
+ghost use Rattle.command_words.specs.Settings.{AreLevelSettings, AreParams, AreReportSettings, AreSearchSettings};
 
 use crate::choice::{base_in, is_given};
-use crate::number::{NODE_LIMIT, WORKER_COUNT, count_in, number_in};
-use crate::{Params, ReportSettings, SearchSettings};
+use crate::number::{NODE_LIMIT, WINDOW_WIDTH, WORKER_COUNT, count_in, number_in};
+use crate::{LevelSettings, Params, ReportSettings, SearchSettings};
 use clap::ArgMatches;
 use model_params::{COULOMB_NUMBER, LEVEL_DEPTH, LEVEL_GAP, PERMITTIVITY, SCREENING_LENGTH};
+use window_model::window_of;
 
 /// The parameters of potentials and levels.
 pub fn params_in(matches: &ArgMatches<'_>) -> Option<Params>
@@ -36,6 +38,18 @@ pub fn search_in(matches: &ArgMatches<'_>) -> Option<SearchSettings>
     Some(SearchSettings {
         limit: count_in(matches.get_str("limit"), &NODE_LIMIT)?,
         workers: count_in(matches.get_str("workers"), &WORKER_COUNT)?,
+    })
+}
+
+/// How far around the ground lists are looked for.
+pub fn levels_in(matches: &ArgMatches<'_>) -> Option<LevelSettings>
+    ensures found { IfSome result (AreLevelSettings (first_value (found_of matches.now))) }
+    ensures none { IfNone result ((l : LevelSettings)
+        → AreLevelSettings (first_value (found_of matches.now)) l → ⊥) }
+{
+    let width = number_in(matches.get_str("window"), &WINDOW_WIDTH)?;
+    Some(LevelSettings {
+        window: window_of(width),
     })
 }
 

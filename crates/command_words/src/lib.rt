@@ -10,5 +10,5 @@ mod settings;
 mod words;
 
 pub use model_params::Params;
-pub use settings::{Form, ReportSettings, SearchSettings, Settings, Task};
+pub use settings::{Form, LevelSettings, ReportSettings, SearchSettings, Settings, Task};
 pub use words::read_words;

@@ -22,6 +22,14 @@ pub const WORKER_COUNT: Quantity = Quantity {
     preset: 4,
 };
 
+/// How far above the ground lists are looked for, in 10^-12 V.
+pub const WINDOW_WIDTH: Quantity = Quantity {
+    places: 12,
+    least: 0,
+    greatest: 2_000_000_000_000,
+    preset: 0,
+};
+
 /// The number that the text gives, or the preset one where there is no text.
 pub fn number_in(given: Option<&str>, quantity: &Quantity) -> Option<i64>
     requires places { quantity.now.places ≤ 12 }

@@ -1,6 +1,7 @@
 ghost use Rattle.command_words.specs.Limits.{AreSearchLimits};
 
 use model_params::Params;
+use window_model::Window;
 
 /// What a run does.
 #[derive(Clone, Copy, Debug, PartialEq, Eq)]
@@ -13,6 +14,8 @@ pub enum Task {
     Certify,
     /// Checks a certificate.
     Check,
+    /// Prints the window list of a problem.
+    Window,
 }
 
 /// The form of a run's input.
@@ -36,6 +39,13 @@ pub struct SearchSettings {
     ghost in_range: { AreSearchLimits limit workers },
 }
 
+/// How far around the ground, and around the levels, lists are looked for.
+#[derive(Clone, Copy)]
+pub struct LevelSettings {
+    /// How far above the ground lists are looked for.
+    pub window: Window,
+}
+
 /// What a report has, and how it is written.
 #[derive(Clone, Copy, Debug, PartialEq, Eq)]
 pub struct ReportSettings {
@@ -46,11 +56,12 @@ pub struct ReportSettings {
 }
 
 /// What the words of a run ask for.
-#[derive(Clone, Copy, Debug, PartialEq, Eq)]
+#[derive(Clone, Copy)]
 pub struct Settings {
     pub task: Task,
     pub form: Form,
     pub params: Params,
     pub search: SearchSettings,
     pub report: ReportSettings,
+    pub levels: LevelSettings,
 }

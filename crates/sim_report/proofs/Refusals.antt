@@ -1,5 +1,5 @@
 -- texts that say something else
-use Rattle.std.proofs.Common.{◌≡◌, ℕ, List, [], get_or, ap, arith, None, Some, false}
+use Rattle.std.proofs.Common.{◌≡◌, ℕ, List, [], get_or, ap, arith, pos, None, Some, false}
 use Rattle.std.specs.Fmt.{digits}
 use Rattle.charge_model.specs.Problem.{Problem}
 use Rattle.charge_model.specs.GroundList.{Entry}
@@ -7,6 +7,7 @@ use Rattle.sidb_layout.specs.Lattice.{silicon}
 use Rattle.sidb_layout.specs.Layout.{arrangement_of}
 use Rattle.ground_report.specs.declared.about.About.{About}
 use Rattle.sim_report.specs.GroundText.{lattice_rows, title_rows, count_rows, IsGroundText}
+use Rattle.sim_report.specs.WindowText.{window_title_rows}
 use Rattle.sim_report.proofs.StandardFacts.{closer, beside_fixed}
 
 no_line_for_silicon : lattice_rows silicon ≡ [] → lattice_rows closer ≡ [] → ⊥
@@ -22,3 +23,7 @@ skipped_items_count is = let differ : 49 ≡ 48 = ap (λ (rows : List (List (Lis
 
 no_empty_text : (a : About) (p : Problem) (es : List Entry) → IsGroundText a p es false [] → ⊥
 no_empty_text a p es is = absurd (cc)
+
+the_window_is_named : (n : ℕ) → window_title_rows (pos 1) n ≡ window_title_rows (pos 2) n → ⊥
+unfolding digits
+the_window_is_named n is = let differ : 49 ≡ 50 = ap (λ (rows : List (List (List ℕ))). get_or (get_or (get_or rows 1 []) 1 []) 0 0) is in omega (arith, differ)

@@ -1,5 +1,5 @@
 -- ground texts written by hand
-use Rattle.std.proofs.Common.{◌≡◌, refl, ℕ, ℤ, pos, negsuc, List, [], ◌∷◌, ◌++◌, codes, None, Some, false}
+use Rattle.std.proofs.Common.{◌≡◌, refl, ℕ, ℤ, pos, negsuc, List, [], ◌∷◌, ◌++◌, codes, map, None, Some, false}
 use Rattle.std.specs.Fmt.{digits}
 use Rattle.std.proofs.Common.{lit≤}
 use Rattle.std.specs.List.{join_with_byte}
@@ -13,7 +13,9 @@ use Rattle.sidb_layout.specs.declared.lattice.Lattice.{Lattice}
 use Rattle.sidb_layout.specs.Lattice.{silicon}
 use Rattle.sidb_layout.specs.Layout.{arrangement_of}
 use Rattle.ground_report.specs.declared.about.About.{About}
-use Rattle.sim_report.specs.GroundText.{energy_row, plain_text, IsGroundText}
+use Rattle.entry_lines.specs.EntryLines.{entry_words}
+use Rattle.sim_report.specs.GroundText.{energy_row, plain_text, titled_text, IsGroundText}
+use Rattle.sim_report.specs.WindowText.{window_title_rows}
 
 -- a line and its end
 abbrev pub line : List ℕ → List ℕ → List ℕ
@@ -70,3 +72,9 @@ wide = record { lo = negsuc 3; hi = pos 2; in_order = record { le = tt } }
 an_energy : join_with_byte 32 (energy_row (neutral, wide)) ≡ codes "0 certain energy -4 2"
 unfolding digits
 an_energy = refl
+
+-- one site of a table within a window of 2 * 10^-12 V
+a_window : titled_text (window_title_rows (pos 2) 1) (record { layout = None; skipped = 0 }) (map entry_words (neutral ∷ []))
+    ≡ line (codes "sidb-window 1") (line (codes "window 2") (line (codes "sites 1") (line (codes "skipped 0") (line (codes "entries 1") (line (codes "0 certain") (line (codes "end") []))))))
+unfolding digits
+a_window = refl

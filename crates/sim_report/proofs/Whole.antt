@@ -9,7 +9,7 @@ use Rattle.ground_report.specs.declared.about.About.{About}
 use Rattle.ground_report.specs.Energies.{AreEnergies}
 use Rattle.text_rows.specs.Rows.{text_of}
 use Rattle.entry_lines.specs.EntryLines.{entry_words}
-use Rattle.sim_report.specs.GroundText.{title_rows, layout_rows, count_rows, end_rows, text_with, energy_row, AreEntryLines, IsGroundText}
+use Rattle.sim_report.specs.GroundText.{layout_rows, count_rows, end_rows, titled_text, energy_row, AreEntryLines, IsTitledText}
 use Rattle.sim_report.proofs.RowLemmas.{text_of-append}
 
 -- a list of energies is as long as its list of entries
@@ -20,17 +20,17 @@ one_each p (e ∷ es) [] energies = elim energies [ ]
 one_each p (e ∷ es) (s ∷ spans) energies = ap suc (one_each p es spans energies.1)
 
 -- the lines before the entries, these, and the last line
-whole_text : (a : About) (sites n : ℕ) (rows : List (List (List ℕ))) (head entries body text : List ℕ) → head ≡ text_of (title_rows a sites ++ (layout_rows a.layout ++ count_rows a n)) → length rows ≡ n → entries ≡ text_of rows → body ≡ head ++ entries → text ≡ body ++ text_of end_rows → text ≡ text_with a sites rows
-whole_text a sites n rows head entries body text before count is more whole =
-    let counted : head ≡ text_of (title_rows a sites ++ (layout_rows a.layout ++ count_rows a (length rows))) = before ∙ ap (λ k. text_of (title_rows a sites ++ (layout_rows a.layout ++ count_rows a k))) (sym count) in
+whole_text : (title : List (List (List ℕ))) (a : About) (n : ℕ) (rows : List (List (List ℕ))) (head entries body text : List ℕ) → head ≡ text_of (title ++ (layout_rows a.layout ++ count_rows a n)) → length rows ≡ n → entries ≡ text_of rows → body ≡ head ++ entries → text ≡ body ++ text_of end_rows → text ≡ titled_text title a rows
+whole_text title a n rows head entries body text before count is more whole =
+    let counted : head ≡ text_of (title ++ (layout_rows a.layout ++ count_rows a (length rows))) = before ∙ ap (λ k. text_of (title ++ (layout_rows a.layout ++ count_rows a k))) (sym count) in
     let behind : entries ++ text_of end_rows ≡ text_of (rows ++ end_rows) = ap (λ t. t ++ text_of end_rows) is ∙ sym (text_of-append rows end_rows) in
     whole ∙ ap (λ t. t ++ text_of end_rows) more ∙ append_assoc head entries (text_of end_rows) ∙ ap (λ t. head ++ t) behind ∙ ap (λ t. t ++ text_of (rows ++ end_rows)) counted
-    ∙ sym (text_of-append (title_rows a sites ++ (layout_rows a.layout ++ count_rows a (length rows))) (rows ++ end_rows))
-    ∙ ap text_of (append_assoc (title_rows a sites) (layout_rows a.layout ++ count_rows a (length rows)) (rows ++ end_rows) ∙ ap (λ t. title_rows a sites ++ t) (append_assoc (layout_rows a.layout) (count_rows a (length rows)) (rows ++ end_rows)))
+    ∙ sym (text_of-append (title ++ (layout_rows a.layout ++ count_rows a (length rows))) (rows ++ end_rows))
+    ∙ ap text_of (append_assoc title (layout_rows a.layout ++ count_rows a (length rows)) (rows ++ end_rows) ∙ ap (λ t. title ++ t) (append_assoc (layout_rows a.layout) (count_rows a (length rows)) (rows ++ end_rows)))
 
--- the ground text from the lines of its entries
-pub whole : (a : About) (p : Problem) (es : List Entry) (energies : Bool) (n : ℕ) (head entries body text : List ℕ) → head ≡ text_of (title_rows a p.sites ++ (layout_rows a.layout ++ count_rows a n)) → length es ≡ n → AreEntryLines p es energies entries → body ≡ head ++ entries → text ≡ body ++ text_of end_rows → IsGroundText a p es energies text
-whole a p es false n head entries body text before count is more end =
-    whole_text a p.sites n (map entry_words es) head entries body text before (length-map es entry_words ∙ count) is more end
-whole a p es true n head entries body text before count is more end =
-    record { spans = is.spans; energies = is.energies; prints = whole_text a p.sites n (map energy_row (zip es is.spans)) head entries body text before (length-map (zip es is.spans) energy_row ∙ one_each p es is.spans is.energies ∙ count) is.prints more end }
+-- the text under this title from the lines of its entries
+pub whole : (title : List (List (List ℕ))) (a : About) (p : Problem) (es : List Entry) (energies : Bool) (n : ℕ) (head entries body text : List ℕ) → head ≡ text_of (title ++ (layout_rows a.layout ++ count_rows a n)) → length es ≡ n → AreEntryLines p es energies entries → body ≡ head ++ entries → text ≡ body ++ text_of end_rows → IsTitledText title a p es energies text
+whole title a p es false n head entries body text before count is more end =
+    whole_text title a n (map entry_words es) head entries body text before (length-map es entry_words ∙ count) is more end
+whole title a p es true n head entries body text before count is more end =
+    record { spans = is.spans; energies = is.energies; prints = whole_text title a n (map energy_row (zip es is.spans)) head entries body text before (length-map (zip es is.spans) energy_row ∙ one_each p es is.spans is.energies ∙ count) is.prints more end }

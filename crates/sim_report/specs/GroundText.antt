@@ -55,9 +55,9 @@ count_rows a entries = (codes "skipped" ∷ decimal (skipped_in a) ∷ [])
 abbrev pub end_rows : List (List (List ℕ))
 end_rows = (codes "end" ∷ []) ∷ []
 
--- the text with these lines of entries
-abbrev pub text_with : About → ℕ → List (List (List ℕ)) → List ℕ
-text_with a sites rows = text_of (title_rows a sites
+-- the text with this title and these lines of entries
+abbrev pub titled_text : List (List (List ℕ)) → About → List (List (List ℕ)) → List ℕ
+titled_text title a rows = text_of (title
     ++ (layout_rows a.layout ++ (count_rows a (length rows) ++ (rows ++ end_rows))))
 
 -- the line of an entry with its least and greatest energy at scale 1, in 10^-12 V
@@ -77,16 +77,21 @@ AreEntryLines p es true text = AreLinesWithEnergies p es text
 
 -- the ground text without energies
 abbrev pub plain_text : About → ℕ → List Entry → List ℕ
-plain_text a sites es = text_with a sites (map entry_words es)
+plain_text a sites es = titled_text (title_rows a sites) a (map entry_words es)
 
--- the ground text with the energy of each entry
-pub record IsTextWithEnergies (a : About) (p : Problem) (es : List Entry) (text : List ℕ)
-    : Type 0 where
+-- the text with this title and each entry with its energy
+pub record IsTextWithEnergies (title : List (List (List ℕ))) (a : About) (p : Problem)
+    (es : List Entry) (text : List ℕ) : Type 0 where
   pub spans : List Span
   pub energies : AreEnergies p es spans
-  pub prints : text ≡ text_with a p.sites (map energy_row (zip es spans))
+  pub prints : text ≡ titled_text title a (map energy_row (zip es spans))
+
+-- the text with this title and these entries, without energies or with them
+abbrev pub IsTitledText : List (List (List ℕ)) → About → Problem → List Entry → Bool → List ℕ
+    → Type 0
+IsTitledText title a p es false text = text ≡ titled_text title a (map entry_words es)
+IsTitledText title a p es true text = IsTextWithEnergies title a p es text
 
 -- the ground text, without energies or with them
 abbrev pub IsGroundText : About → Problem → List Entry → Bool → List ℕ → Type 0
-IsGroundText a p es false text = text ≡ plain_text a p.sites es
-IsGroundText a p es true text = IsTextWithEnergies a p es text
+IsGroundText a p es energies text = IsTitledText (title_rows a p.sites) a p es energies text

@@ -6,3 +6,4 @@ pub use Rattle.ground_report.specs.Energies
 pub use Rattle.sim_report_json.specs.Parts
 pub use Rattle.sim_report_json.specs.GroundJson
 pub mod GroundText
+pub mod WindowText

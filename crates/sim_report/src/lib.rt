@@ -9,5 +9,5 @@ mod rows;
 
 pub use ground_report::About;
 pub use lists::plain_lines;
-pub use report::ground_text;
+pub use report::{ground_text, window_text};
 pub use sim_report_json::ground_json;

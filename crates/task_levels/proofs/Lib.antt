@@ -1,0 +1,5 @@
+pub mod OneAnswer
+pub mod SomeAnswer
+pub mod Told
+mod StandardFacts
+mod Refusals

@@ -1,0 +1,10 @@
+pub use Rattle.charge_model.specs.GroundList
+pub use Rattle.candidate_marks.specs.Found
+pub use Rattle.command_words.specs.Settings
+pub use Rattle.ground_state.specs.Window
+pub use Rattle.run_answer.specs.Status
+pub use Rattle.run_answer.specs.Due
+pub use Rattle.sim_report.specs.WindowText
+pub use Rattle.window_model.specs.Windows
+pub mod WindowAnswer
+pub mod Told

@@ -1,0 +1,48 @@
+//! What holds of the answers of this task: there is one for each problem, and what it tells.
+ghost use Rattle.std.specs.Prelude.{◌≡◌, ℕ, List};
+ghost use Rattle.charge_model.specs.Problem.{Problem, IsProblem};
+ghost use Rattle.command_words.specs.declared.settings.Settings.{Settings};
+ghost use Rattle.ground_report.specs.declared.about.About.{About as AboutData};
+ghost use Rattle.run_answer.specs.declared.status.Status.{Status as StatusData};
+ghost use Rattle.run_answer.specs.declared.status.Status.TheVariants.{Answered};
+ghost use Rattle.task_levels.specs.WindowAnswer.{IsWindowListAnswer};
+ghost use Rattle.task_levels.specs.Told.{TellsNearLists};
+
+use certain_energy_laws::laws::least_certain_energies_exist;
+use ground_state::laws::one_window_answer;
+use marked_list_laws::laws::each_problem_has_a_marked_window_list;
+use sim_report::laws::one_window_text;
+use task_ground::laws::entries_have_energies;
+use window_laws::laws::{
+    certain_entries_are_near_the_ground, near_lists_are_listed, unresolved_entries_fail_within,
+};
+
+/// For a problem, of which this is told, one status and one text at most are the answer.
+pub fn one_window_list_answer()
+    ensures { (s : Settings) (about : AboutData) (p : Problem) (a b : StatusData) (t u : List ℕ)
+        → IsWindowListAnswer s about p a t → IsWindowListAnswer s about p b u
+        → (a ≡ b) × (t ≡ u) }
+{
+    one_window_answer();
+    one_window_text();
+}
+
+/// For a problem some status and some text are the answer.
+pub fn some_window_list_answer()
+    ensures { (s : Settings) (about : AboutData) (p : Problem) → IsProblem p
+        → (status : StatusData) × (text : List ℕ) × IsWindowListAnswer s about p status text }
+{
+    least_certain_energies_exist();
+    each_problem_has_a_marked_window_list();
+    entries_have_energies();
+}
+
+/// A text that is answered tells the lists near the ground under every potential table.
+pub fn window_answers_tell()
+    ensures { (s : Settings) (about : AboutData) (p : Problem) (text : List ℕ)
+        → IsWindowListAnswer s about p Answered text → TellsNearLists s about p text }
+{
+    near_lists_are_listed();
+    certain_entries_are_near_the_ground();
+    unresolved_entries_fail_within();
+}
