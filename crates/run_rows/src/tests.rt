@@ -11,13 +11,29 @@ const TWO: &str = "0 0 0\n1 0 0\n";
 const TWO_GROUND: &str = "sidb-ground 1\nsites 2\nsite 0 0 0 0\nsite 1 1 0 0\n\
      skipped 0\nentries 2\n-0 certain\n0- certain\nend\n";
 
+/// The certificate of one site, which is negative.
+const ONE_CERTIFICATE: &str = "sidb-certificate 1\nsidb-table 1\nsites 1\nbase 3\n\
+     mu -320000000000 -910000000000\nend\nentries 1\n- certain\ntokens\nn\nl 0\ns 0\ns 0\nend\n";
+
 /// Of each task words, an input, and the output.
-const TASKS: [(&str, &str, &str); 2] = [
+const TASKS: [(&str, &str, &str); 5] = [
     ("", TWO, TWO_GROUND),
     (
         "--task potentials",
         "0 0 0\n",
         "sidb-table 1\nsites 1\nbase 3\nmu -320000000000 -910000000000\nend\n",
+    ),
+    ("--task certify", "0 0 0\n", ONE_CERTIFICATE),
+    (
+        "--task check",
+        ONE_CERTIFICATE,
+        "sidb-ground 1\nsites 1\nskipped 0\nentries 1\n- certain\nend\n",
+    ),
+    (
+        "--task window --window 0.02",
+        "0 0 0\n",
+        "sidb-window 1\nwindow 20000000000\nsites 1\nsite 0 0 0 0\nskipped 0\nentries 1\n\
+         - certain\nend\n",
     ),
 ];
 
