@@ -41,10 +41,13 @@ pub solved_due : (s : Settings) (p : Problem) (solved : Solved) (d : DueCertific
     → d.problem ≡ p → d.entries ≡ solved.list → d.bound ≡ solved.bound → DeliveryIs (IsCertifyAnswer s p) (Certificate d)
 solved_due s p solved d is few problem entries bound = record {
   ends = tt;
-  answers = λ text whole. inl (refl, solved_text p s.search.limit solved is (subst (λ (es : List Entry). length es ≤ MAX_ENTRIES) entries few) text
-  (subst (λ (q : Problem). IsTextUpTo q solved.bound solved.list text) problem
-  (subst (λ (b : Option ℤ). IsTextUpTo d.problem b solved.list text) bound
-  (subst (λ (es : List Entry). IsTextUpTo d.problem d.bound es text) entries whole))));
+  answers = λ text whole. inl (
+    refl,
+    solved_text p s.search.limit solved is (subst (λ (es : List Entry). length es ≤ MAX_ENTRIES) entries few) text
+        (subst (λ (q : Problem). IsTextUpTo q solved.bound solved.list text) problem
+        (subst (λ (b : Option ℤ). IsTextUpTo d.problem b solved.list text) bound
+        (subst (λ (es : List Entry). IsTextUpTo d.problem d.bound es text) entries whole))),
+  );
 }
 
 -- a certificate that is due has a text, of which so much was written
@@ -99,18 +102,24 @@ some_answer laws s p valid = by (laws.ground s about_certificate p valid)
     by (status, text, inr why) = (status, text, inr why)
     by (status, text, inl (answered, report)) =
         let bound = report.list.budget in
-        let written = laws.tokens p report.entries bound.0 valid report.list.list bound.1 in
-        (Answered, certificate_text p report.entries written.0, inl (refl, record {
-          own = record {
-            list = report.entries;
-            bound = bound.0;
-            marked = report.list.list;
-            least = bound.1;
-            whole = record { tokens = written.0; walked = written.1; prints = refl };
-          };
-          few = report.list.few;
-          within = bound.2;
-        }))
+        let written = laws.tokens p report.entries bound.0 valid report.list.list bound.1 in (
+          Answered,
+          certificate_text p report.entries written.0,
+          inl (
+            refl,
+            record {
+              own = record {
+                list = report.entries;
+                bound = bound.0;
+                marked = report.list.list;
+                least = bound.1;
+                whole = record { tokens = written.0; walked = written.1; prints = refl };
+              };
+              few = report.list.few;
+              within = bound.2;
+            },
+          ),
+        )
 
 -- the text of an own certificate is read back, and it is sound
 pub record AreTold : Type 0 where

@@ -25,7 +25,9 @@ pub fn certify_answer<'a, R: Threads + Sync, G: Gate>(
 {
     let SearchSettings { limit, workers, .. } = settings.search;
     match solve(rt, alloc, problem, limit, workers, gate) {
-        SolveAnswer::List(solved) => Ok(Delivery::Certificate(CertificateDue::new(problem, solved))),
+        SolveAnswer::List(solved) => Ok(Delivery::Certificate(CertificateDue::new(
+            problem, solved,
+        ))),
         SolveAnswer::Budget => Ok(Delivery::Text(budget_due(alloc, limit)?)),
         SolveAnswer::ListTooLong => Ok(Delivery::Text(long_list_due())),
         SolveAnswer::Memory => Err(Memory),
