@@ -32,12 +32,7 @@ fn truth_value(alloc: Global, name: &str, truth: &Truth) -> Result<Value, Memory
 }
 
 /// The report of a function, its patterns and what the gate does.
-fn table_value(
-    alloc: Global,
-    name: &str,
-    patterns: Value,
-    verdict: &str,
-) -> Result<Value, Memory>
+fn table_value(alloc: Global, name: &str, patterns: Value, verdict: &str) -> Result<Value, Memory>
     ensures { IfOk result (λ value. view value ≡ table_data name.now (view patterns) verdict.now) }
 {
     let name = name.to_string(alloc)?;
