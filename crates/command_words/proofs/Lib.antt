@@ -1,7 +1,10 @@
 pub mod ListLemmas
+pub mod Decided
+pub mod Choices
 pub mod MeaningLemmas
 pub mod SettingLemmas
-pub mod Decided
+pub mod SomeOption
+pub mod SomeGroup
 pub mod SomeMeaning
 pub mod StandardFacts
 pub mod Refusals

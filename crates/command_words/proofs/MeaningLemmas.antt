@@ -10,12 +10,11 @@ use Rattle.command_words.specs.declared.settings.Settings.{Settings}
 use Rattle.command_words.specs.declared.settings.SearchSettings.{SearchSettings}
 use Rattle.command_words.specs.declared.settings.ReportSettings.{ReportSettings}
 use Rattle.command_words.specs.declared.settings.Task.{Task}
-use Rattle.command_words.specs.declared.settings.Task.TheVariants.{Ground, Potentials}
 use Rattle.command_words.specs.declared.settings.Form.{Form}
-use Rattle.command_words.specs.declared.settings.Form.TheVariants.{Sites, Sqd, Table}
 use Rattle.command_words.specs.Limits.{AreSearchLimits, node_limit, worker_count}
-use Rattle.command_words.specs.Options.{IsBase, IsChoice, IsGiven, IsNumber}
-use Rattle.command_words.specs.Settings.{AreParams, AreReportSettings, AreSearchSettings, AreSettings, form_name, task_name}
+use Rattle.command_words.specs.Options.{IsBase, IsGiven, IsNumber}
+use Rattle.command_words.specs.Settings.{AreParams, AreReportSettings, AreSearchSettings, AreSettings}
+use Rattle.command_words.proofs.Choices.{one_form, one_task}
 
 -- a text is read as one number
 abbrev pub IsReadOnce : Type 0
@@ -29,6 +28,7 @@ one_number : IsReadOnce → (q : Quantity) (given : Option Text) (v w : ℤ) →
 one_number once q None v w e f = e ∙ sym f
 one_number once q (Some text) v w e f = once text q.places q.least q.greatest v w e f
 
+-- `2` is not `3`
 two_is_not_three : (text : Text) → text ≡ codes "2" → text ≡ codes "3" → ⊥
 two_is_not_three text e f = let first : ◌≡◌ {A = ℕ} 50 51 = ap (λ t. slice_index_or t 0 0) (sym e ∙ f) in absurd (omega (arith, first))
 
@@ -39,32 +39,7 @@ one_base (Some text) a b (inl e) (inr f) = absurd (two_is_not_three text e.0 f.0
 one_base (Some text) a b (inr e) (inl f) = absurd (two_is_not_three text f.0 e.0)
 one_base (Some text) a b (inr e) (inr f) = e.1 ∙ sym f.1
 
--- two texts that differ at a place are not the same
-differ : (i x y : ℕ) (s t : Text) → slice_index_or s i 0 ≡ x → slice_index_or t i 0 ≡ y → (x ≡ y → ⊥) → s ≡ t → ⊥
-differ i x y s t at also not same = not (sym at ∙ ap (λ (u : Text). slice_index_or u i 0) same ∙ also)
-
--- no two tasks, and no two forms, have one name
-one_task : (a b : Task) → task_name a ≡ task_name b → a ≡ b
-one_task Ground Ground e = refl
-one_task Potentials Potentials e = refl
-one_task Ground Potentials e = absurd (differ 0 103 112 _ _ refl refl (λ f. omega (arith, f)) e)
-one_task Potentials Ground e = absurd (differ 0 112 103 _ _ refl refl (λ f. omega (arith, f)) e)
-
-one_form : (a b : Form) → form_name a ≡ form_name b → a ≡ b
-one_form Sites Sites e = refl
-one_form Sqd Sqd e = refl
-one_form Table Table e = refl
-one_form Sites Table e = absurd (differ 0 115 116 _ _ refl refl (λ f. omega (arith, f)) e)
-one_form Table Sites e = absurd (differ 0 116 115 _ _ refl refl (λ f. omega (arith, f)) e)
-one_form Sites Sqd e = absurd (differ 1 105 113 _ _ refl refl (λ f. omega (arith, f)) e)
-one_form Sqd Sites e = absurd (differ 1 113 105 _ _ refl refl (λ f. omega (arith, f)) e)
-one_form Sqd Table e = absurd (differ 0 115 116 _ _ refl refl (λ f. omega (arith, f)) e)
-one_form Table Sqd e = absurd (differ 0 116 115 _ _ refl refl (λ f. omega (arith, f)) e)
-
-one_choice : {A : Type 0} → (name_of : A → Text) → ((a b : A) → name_of a ≡ name_of b → a ≡ b) → (preset : A) (given : Option Text) (a b : A) → IsChoice name_of preset given a → IsChoice name_of preset given b → a ≡ b
-one_choice name_of one preset None a b e f = e ∙ sym f
-one_choice name_of one preset (Some text) a b e f = one a b (sym e ∙ f)
-
+-- a flag is given, or is not
 one_flag : (told : Option Text) (a b : Bool) → IsGiven told a → IsGiven told b → a ≡ b
 one_flag told true true e f = refl
 one_flag told false false e f = refl
@@ -130,8 +105,8 @@ same_settings t u f h p q s r m n task form params search report = cc
 pub one_settings : IsReadOnce → AreGivenByNumbers → (value : Text → Option Text) (a b : Settings) → AreSettings value a → AreSettings value b → a ≡ b
 one_settings once given value a b e f =
     same_settings a.task b.task a.form b.form a.params b.params a.search b.search a.report b.report
-    (one_choice task_name one_task Ground (value (codes "task")) a.task b.task e.task f.task)
-    (one_choice form_name one_form Sites (value (codes "form")) a.form b.form e.form f.form)
+    (one_task (value (codes "task")) a.task b.task e.task f.task)
+    (one_form (value (codes "form")) a.form b.form e.form f.form)
     (one_params once given value a.params b.params e.params f.params)
     (one_search once value a.search b.search e.search f.search)
     (one_report value a.report b.report e.report f.report)

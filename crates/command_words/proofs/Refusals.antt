@@ -1,17 +1,18 @@
 -- each definition refuses a wrong value
-use Rattle.std.proofs.Common.{◌≡◌, ap, inl, inr, ℕ, pos, [], ◌∷◌, Some, None, codes, arith, slice_index_or}
+use Rattle.std.proofs.Common.{◌≡◌, inl, inr, ℕ, pos, [], ◌∷◌, Option, Some, None, codes, arith}
 use Rattle.std.proofs.lemmas.Int.{ints}
 use Rattle.command_words.specs.declared.settings.Settings.{Settings}
 use Rattle.command_words.specs.declared.settings.Task.{Task}
-use Rattle.command_words.specs.declared.settings.Task.TheVariants.{Ground, Potentials}
+use Rattle.command_words.specs.declared.settings.Task.TheVariants.{Ground}
 use Rattle.command_words.specs.declared.settings.Form.{Form}
-use Rattle.command_words.specs.declared.settings.Form.TheVariants.{Sites, Sqd, Table}
+use Rattle.command_words.specs.declared.settings.Form.TheVariants.{Sites, Table}
 use Rattle.model_params.specs.Quantities.{IsWithin, level_depth, level_gap, permittivity, screening_length}
 use Rattle.command_words.specs.Limits.{node_limit, worker_count}
 use Rattle.command_words.specs.Options.{IsBase, IsChoice, IsNumber}
 use Rattle.command_words.specs.Settings.{IsSettingsOf, form_name, task_name}
 use Rattle.clap.proofs.OnLiterals.{clap_on_literals}
 use Rattle.command_words.specs.Command.{sidb_command, matches_in}
+use Rattle.command_words.proofs.Choices.{begins_a_form, begins_a_task, form_by, key, task_by}
 use Rattle.command_words.proofs.StandardFacts.{rows, preset}
 
 no_base_four : IsBase (Some (codes "4")) 4 → ⊥
@@ -25,14 +26,13 @@ no_base_with_a_zero base (inr h) = let e = h.0 in absurd (cc)
 no_preset_base_two : IsBase None 2 → ⊥
 no_preset_base_two e = omega (arith, e)
 
-no_unknown_task : (task : Task) → IsChoice task_name Ground (Some (codes "check")) task → ⊥
-no_unknown_task Ground e = let first : ◌≡◌ {A = ℕ} 99 103 = ap (λ text. slice_index_or text 0 0) e in absurd (omega (arith, first))
-no_unknown_task Potentials e = let first : ◌≡◌ {A = ℕ} 99 112 = ap (λ text. slice_index_or text 0 0) e in absurd (omega (arith, first))
+no_unknown_task : (task : Task) → IsChoice task_name Ground (Some (codes "solve")) task → ⊥
+unfolding key task_by
+no_unknown_task task is = let none : ◌≡◌ {A = Option Task} None (Some task) = begins_a_task (codes "solve") task is in absurd (cc)
 
 no_unknown_form : (form : Form) → IsChoice form_name Sites (Some (codes "gds")) form → ⊥
-no_unknown_form Sites e = let first : ◌≡◌ {A = ℕ} 103 115 = ap (λ text. slice_index_or text 0 0) e in absurd (omega (arith, first))
-no_unknown_form Sqd e = let first : ◌≡◌ {A = ℕ} 103 115 = ap (λ text. slice_index_or text 0 0) e in absurd (omega (arith, first))
-no_unknown_form Table e = let first : ◌≡◌ {A = ℕ} 103 116 = ap (λ text. slice_index_or text 0 0) e in absurd (omega (arith, first))
+unfolding key form_by
+no_unknown_form form is = let none : ◌≡◌ {A = Option Form} None (Some form) = begins_a_form (codes "gds") form is in absurd (cc)
 
 no_preset_form_table : IsChoice form_name Sites None Table → ⊥
 no_preset_form_table e = absurd (cc)

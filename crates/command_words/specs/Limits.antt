@@ -11,7 +11,7 @@ node_limit = record { places = 0; least = pos 1; greatest = pos 10000000; preset
 abbrev pub worker_count : Quantity
 worker_count = record { places = 0; least = pos 1; greatest = pos 16; preset = pos 4 }
 
--- both are in their ranges
+-- the limits of a search are in their ranges
 pub record AreSearchLimits (limit workers : ℕ) : Type 0 where
   pub limit_within : IsWithin node_limit (pos limit)
   pub workers_within : IsWithin worker_count (pos workers)

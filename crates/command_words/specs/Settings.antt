@@ -4,7 +4,7 @@ use Rattle.clap.specs.Walk.{Text}
 use Rattle.model_params.specs.declared.params.Params.{Params}
 use Rattle.model_params.specs.Quantities.{coulomb_number, level_depth, level_gap, permittivity, screening_length}
 use Rattle.command_words.specs.declared.settings.Task.{Task}
-use Rattle.command_words.specs.declared.settings.Task.TheVariants.{Ground, Potentials}
+use Rattle.command_words.specs.declared.settings.Task.TheVariants.{Ground, Potentials, Certify, Check}
 use Rattle.command_words.specs.declared.settings.Form.{Form}
 use Rattle.command_words.specs.declared.settings.Form.TheVariants.{Sites, Sqd, Table}
 use Rattle.command_words.specs.declared.settings.SearchSettings.{SearchSettings}
@@ -18,6 +18,8 @@ use Rattle.command_words.specs.Limits.{node_limit, worker_count}
 abbrev pub task_name : Task → Text
 task_name Ground = codes "ground"
 task_name Potentials = codes "potentials"
+task_name Certify = codes "certify"
+task_name Check = codes "check"
 
 -- the names of the forms
 abbrev pub form_name : Form → Text

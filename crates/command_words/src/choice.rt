@@ -16,6 +16,8 @@ pub fn task_in(given: Option<&str>) -> Option<Task>
     match given {
         None | Some("ground") => Some(Task::Ground),
         Some("potentials") => Some(Task::Potentials),
+        Some("certify") => Some(Task::Certify),
+        Some("check") => Some(Task::Check),
         Some(_) => None,
     }
 }

@@ -9,6 +9,10 @@ pub enum Task {
     Ground,
     /// Prints the table text of a problem.
     Potentials,
+    /// Prints the certificate of a problem's ground list.
+    Certify,
+    /// Checks a certificate.
+    Check,
 }
 
 /// The form of a run's input.

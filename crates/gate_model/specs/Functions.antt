@@ -9,8 +9,8 @@ names_of inputs =
     then codes "zero" ∷ codes "buf" ∷ codes "not" ∷ codes "one" ∷ []
     else if inputs == 2
     then codes "zero" ∷ codes "and" ∷ codes "gt" ∷ codes "a" ∷ codes "lt" ∷ codes "b" ∷ codes "xor"
-    ∷ codes "or" ∷ codes "nor" ∷ codes "xnor" ∷ codes "notb" ∷ codes "ge" ∷ codes "nota"
-    ∷ codes "le" ∷ codes "nand" ∷ codes "one" ∷ []
+        ∷ codes "or" ∷ codes "nor" ∷ codes "xnor" ∷ codes "notb" ∷ codes "ge" ∷ codes "nota"
+        ∷ codes "le" ∷ codes "nand" ∷ codes "one" ∷ []
     else []
 
 -- whether the binary digit of a number that counts `unit` is 1

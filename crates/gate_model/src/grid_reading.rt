@@ -6,8 +6,8 @@ ghost use Rattle.gate_model.specs.declared.grid.Axis.{Axis};
 ghost use Rattle.gate_model.specs.Grids.{Axes, HasPointsIn, IsAxis};
 ghost use Rattle.gate_model.specs.GridTexts.{AreNumbers, IsAxisText, IsCount, IsGridText, IsStart, IsStep};
 
-use crate::grid::unsigned;
 use crate::parts::{Three, in_three, in_two};
+use crate::grid::unsigned;
 use crate::{Axis, Grid, MAX_GRID_STEP};
 use model_params::{PERMITTIVITY, Quantity, SCREENING_LENGTH};
 use sidb_units::laws::one_reading;

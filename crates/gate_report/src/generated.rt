@@ -1,5 +1,5 @@
 ghost use Rattle.std.specs.Prelude.{◌≡◌, ◌≤◌, length, string_bytes, IfOk};
-ghost use Rattle.gate_report.specs.GenText.{count_certain, gen_text};
+ghost use Rattle.gate_report.specs.GenText.{count_certain, gen_text, is_certain};
 
 use charge_model::Mark;
 use ground_entries::{GroundList, Solved};
@@ -31,13 +31,16 @@ fn count_certain(list: &GroundList) -> usize
 
 /// The summary of a generated layout: its number, its sites, the nodes of the search tree, the
 /// entries of the ground list and how many of them are certain.
-pub fn gen_text(alloc: Global, number: u64, sites: usize, solved: &Solved) -> Result<String, Memory>
+pub fn gen_text(
+    alloc: Global,
+    number: u64,
+    sites: usize,
+    solved: &Solved,
+) -> Result<String, Memory>
     ensures { IfOk result (λ text. string_bytes text ≡ gen_text number sites solved.now) }
 {
     let nodes = solved.nodes;
     let entries = solved.list.len();
     let certain = count_certain(&solved.list);
-    Ok(format!(in alloc;
-        "sidb-gen 1\nnumber {number}\nsites {sites}\nnodes {nodes}\nentries {entries}\ncertain {certain}\nend\n"
-    )?)
+    Ok(format!(in alloc; "sidb-gen 1\nnumber {number}\nsites {sites}\nnodes {nodes}\nentries {entries}\ncertain {certain}\nend\n")?)
 }

@@ -2,13 +2,14 @@
 ghost use Rattle.std.specs.Prelude.{◌≡◌, ◌≤◌, length};
 ghost use Rattle.std.specs.Io.KnownBytes.{IsAtEnd};
 ghost use Rattle.sidb_io.specs.Outside.{HasFault};
-ghost use Rattle.sim_cli.specs.Reading.{IsAnswerable, IsReadingOf, IsToTheEnd};
+ghost use Rattle.sim_cli.specs.Answer.{input_limit};
+ghost use Rattle.sim_cli.specs.Reading.{IsAnswerable, IsReadFor, IsReadingOf, IsToTheEnd};
 ghost use Rattle.sim_cli.specs.Run.{ForBytesLeft};
 
-use command_words::Settings;
+use command_words::{Settings, Task};
 use run_answer::InputFault;
 use sidb_io::{ReadAllFault, Source, read_all};
-use sidb_units::MAX_INPUT_BYTES;
+use sidb_units::{MAX_CERTIFICATE_BYTES, MAX_INPUT_BYTES};
 use std::alloc::Global;
 use task_input::{Input, read_input};
 
@@ -17,6 +18,8 @@ use task_input::{Input, read_input};
 pub enum Reading {
     /// A problem, and what is told of it.
     Problem(Input),
+    /// The text of a certificate.
+    Certificate(Vec<u8>),
     /// The input is refused.
     Refused(InputFault),
     /// A read failed.
@@ -28,26 +31,43 @@ pub enum Reading {
 /// Reads the input whole, and what it means.
 pub fn read_for<S: Source>(alloc: Global, settings: &Settings, source: &mut S) -> Reading
     ensures means { ForBytesLeft (S.left source.old) (IsReadingOf settings.now result) }
+    ensures task { IsReadFor settings.now.task result }
     ensures end { IsToTheEnd result → IsAtEnd (S.left source.new) }
-    ensures short { ForBytesLeft (S.left source.old) (λ bytes. length bytes ≤ MAX_INPUT_BYTES)
+    ensures short { ForBytesLeft (S.left source.old)
+        (λ bytes. length bytes ≤ input_limit settings.now.task)
         → IsAnswerable result → IsAtEnd (S.left source.new) }
     ensures fault { result ≡ Reading.ReadFault
         → HasFault (S.faults source.old) (S.faults source.new) }
 {
-    match read_all(alloc, source, MAX_INPUT_BYTES) {
-        Ok(bytes) => reading_of(alloc, settings, &bytes),
+    match read_all(alloc, source, input_limit(settings.task)) {
+        Ok(bytes) => reading_of(alloc, settings, bytes),
         Err(ReadAllFault::ReadFault) => Reading::ReadFault,
         Err(ReadAllFault::TooLong) => Reading::Refused(InputFault::TooLong),
         Err(ReadAllFault::Memory) => Reading::Memory,
     }
 }
 
+/// The most bytes of a task's input.
+fn input_limit(task: Task) -> usize
+    ensures value { result ≡ input_limit task }
+    ensures within { result ≤ MAX_CERTIFICATE_BYTES }
+{
+    match task {
+        Task::Check => MAX_CERTIFICATE_BYTES,
+        _ => MAX_INPUT_BYTES,
+    }
+}
+
 /// What the bytes of the input mean.
-fn reading_of(alloc: Global, settings: &Settings, bytes: &[u8]) -> Reading
-    ensures means { IsReadingOf settings.now result bytes.now }
+fn reading_of(alloc: Global, settings: &Settings, bytes: Vec<u8>) -> Reading
+    ensures means { IsReadingOf settings.now result bytes.items }
+    ensures task { IsReadFor settings.now.task result }
     ensures answerable { IsAnswerable result }
 {
-    match read_input(alloc, settings, bytes) {
+    if settings.task == Task::Check {
+        return Reading::Certificate(bytes);
+    }
+    match read_input(alloc, settings, &bytes) {
         Ok(input) => Reading::Problem(input),
         Err(fault) => Reading::Refused(fault),
     }

@@ -14,7 +14,7 @@ use Rattle.command_words.specs.declared.settings.Settings.{Settings}
 use Rattle.command_words.specs.declared.settings.Form.{Form}
 use Rattle.command_words.specs.declared.settings.Form.TheVariants.{Sites as SitesForm, Sqd as SqdForm, Table as TableForm}
 use Rattle.fault_lines.specs.declared.input_fault.InputFault.{InputFault}
-use Rattle.fault_lines.specs.declared.input_fault.InputFault.TheVariants.{TooLong, Layout, Table}
+use Rattle.fault_lines.specs.declared.input_fault.InputFault.TheVariants.{TooLong, Layout, Table, Text}
 use Rattle.ground_report.specs.declared.about.About.{About}
 use Rattle.task_input.specs.Input.{IsOfLayout, IsInput, IsInputFault, Means, about_layout}
 
@@ -64,6 +64,12 @@ same_fault sites sqd table TableForm bytes (Layout f) g a b = absurd a
 same_fault sites sqd table SitesForm bytes f (Table g) a b = absurd b
 same_fault sites sqd table SqdForm bytes f (Table g) a b = absurd b
 same_fault sites sqd table TableForm bytes f (Layout g) a b = absurd b
+same_fault sites sqd table SitesForm bytes (Text f) g a b = absurd a
+same_fault sites sqd table SqdForm bytes (Text f) g a b = absurd a
+same_fault sites sqd table TableForm bytes (Text f) g a b = absurd a
+same_fault sites sqd table SitesForm bytes f (Text g) a b = absurd b
+same_fault sites sqd table SqdForm bytes f (Text g) a b = absurd b
+same_fault sites sqd table TableForm bytes f (Text g) a b = absurd b
 
 fault_or_meaning : ((text : List ℕ) (p : Arrangement) (f : SqdFault) → IsSitesText text p → IsSitesFault text f → ⊥)
     → ((text : List ℕ) (p : Arrangement) (skipped : ℕ) (f : SqdFault) → IsSqdText text p skipped → IsSqdFault text f → ⊥)
@@ -76,6 +82,9 @@ fault_or_meaning sites sqd table SqdForm params bytes p a (Layout f) short means
 fault_or_meaning sites sqd table SqdForm params bytes p a (Table f) short means fault = fault
 fault_or_meaning sites sqd table SitesForm params bytes p a (Table f) short means fault = fault
 fault_or_meaning sites sqd table TableForm params bytes p a (Layout f) short means fault = fault
+fault_or_meaning sites sqd table SitesForm params bytes p a (Text f) short means fault = fault
+fault_or_meaning sites sqd table SqdForm params bytes p a (Text f) short means fault = fault
+fault_or_meaning sites sqd table TableForm params bytes p a (Text f) short means fault = fault
 
 pub no_fault : ((text : List ℕ) (p : Arrangement) (f : SqdFault) → IsSitesText text p → IsSitesFault text f → ⊥)
     → ((text : List ℕ) (p : Arrangement) (skipped : ℕ) (f : SqdFault) → IsSqdText text p skipped → IsSqdFault text f → ⊥)

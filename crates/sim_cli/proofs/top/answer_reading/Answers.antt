@@ -5,7 +5,7 @@ use Rattle.sim_cli.proofs.top.answer_reading.Goals as goal
 
 pub returns-in-Ok-clause-answer : goal.returns-in-Ok-clause-answer
 returns-in-Ok-clause-answer g c =
-    λ bytes means. ran_due c.in-Ok.due _ _ _ _ _ c.deliver.ensures (IsTaskAnswer c.args.settings.now bytes) _ (c.in-Ok.ensures.answer bytes means)
+    λ bytes means. ran_due c.in-Ok.due _ _ _ _ _ c.deliver.ensures (IsTaskAnswer c.args.settings.now bytes) _ (c.in-Ok.ensures.answer bytes means) c.in-Ok.ensures.streams
 
 pub returns-in-Ok-clause-read_fault : goal.returns-in-Ok-clause-read_fault
 returns-in-Ok-clause-read_fault g c =

@@ -1,0 +1,120 @@
+-- a group of options has a meaning, or has none
+use Rattle.std.proofs.Common.{refl, ℕ, ℤ, pos, List, Option, Bool, codes, arith}
+use Rattle.std.proofs.lemmas.Int.{ints}
+use Rattle.model_params.specs.declared.params.Params.{Params}
+use Rattle.model_params.specs.Quantities.{coulomb_number, level_depth, level_gap, permittivity, screening_length}
+use Rattle.model_params.specs.Params.{AreInRange}
+use Rattle.command_words.specs.declared.settings.SearchSettings.{SearchSettings}
+use Rattle.command_words.specs.declared.settings.ReportSettings.{ReportSettings}
+use Rattle.command_words.specs.Limits.{AreSearchLimits, node_limit, worker_count}
+use Rattle.command_words.specs.Options.{IsBase, IsGiven, IsNumber}
+use Rattle.command_words.specs.Settings.{AreParams, AreReportSettings, AreSearchSettings}
+use Rattle.command_words.proofs.Decided.{Both, HasSomeOrNone, both, moved}
+use Rattle.command_words.proofs.SomeOption.{AreReadings, base_within, number_within, some_base, some_count, some_flag, some_number}
+
+-- the parameters that these values of options give are in range
+params_in_range : (value : List ℕ → Option (List ℕ)) (coulomb eps lam depth gap : ℤ) (base : ℕ)
+    → IsNumber coulomb_number (value (codes "coulomb")) coulomb → IsNumber permittivity (value (codes "eps")) eps → IsNumber screening_length (value (codes "lambda")) lam
+    → IsNumber level_depth (value (codes "depth")) depth → IsNumber level_gap (value (codes "gap")) gap → IsBase (value (codes "base")) base
+    → AreInRange coulomb eps lam depth gap base
+params_in_range value coulomb eps lam depth gap base is_coulomb is_eps is_lam is_depth is_gap is_base =
+    let bounds = base_within (value (codes "base")) base is_base in
+    record {
+      coulomb_within = number_within coulomb_number (value (codes "coulomb")) coulomb (omega (arith, ints)) (omega (arith, ints)) is_coulomb;
+      eps_within = number_within permittivity (value (codes "eps")) eps (omega (arith, ints)) (omega (arith, ints)) is_eps;
+      lam_within = number_within screening_length (value (codes "lambda")) lam (omega (arith, ints)) (omega (arith, ints)) is_lam;
+      depth_within = number_within level_depth (value (codes "depth")) depth (omega (arith, ints)) (omega (arith, ints)) is_depth;
+      gap_within = number_within level_gap (value (codes "gap")) gap (omega (arith, ints)) (omega (arith, ints)) is_gap;
+      base_from = bounds.0;
+      base_to = bounds.1;
+    }
+
+-- the same for the limits of a search
+limits_in_range : (value : List ℕ → Option (List ℕ)) (limit workers : ℕ) → IsNumber node_limit (value (codes "limit")) (pos limit) → IsNumber worker_count (value (codes "workers")) (pos workers)
+    → AreSearchLimits limit workers
+limits_in_range value limit workers is_limit is_workers = record {
+  limit_within = number_within node_limit (value (codes "limit")) (pos limit) (omega (arith, ints)) (omega (arith, ints)) is_limit;
+  workers_within = number_within worker_count (value (codes "workers")) (pos workers) (omega (arith, ints)) (omega (arith, ints)) is_workers;
+}
+
+module _ (readings : AreReadings) (value : List ℕ → Option (List ℕ)) where
+  -- the numbers of the options of the depth and the gap of the levels
+  abbrev Levels : ℤ × ℤ → Type 0
+  Levels = Both (IsNumber level_depth (value (codes "depth"))) (IsNumber level_gap (value (codes "gap")))
+
+  -- those of the Coulomb number, and the base
+  abbrev Charges : ℤ × ℕ → Type 0
+  Charges = Both (IsNumber coulomb_number (value (codes "coulomb"))) (IsBase (value (codes "base")))
+
+  -- those of the permittivity and the screening length
+  abbrev Lengths : ℤ × ℤ → Type 0
+  Lengths = Both (IsNumber permittivity (value (codes "eps"))) (IsNumber screening_length (value (codes "lambda")))
+
+  -- the options give parameters, or give none
+  pub some_params : HasSomeOrNone (AreParams value)
+  some_params =
+      moved (Both Lengths (Both Levels Charges)) (AreParams value) to back
+      (both Lengths (Both Levels Charges)
+      (both (IsNumber permittivity (value (codes "eps"))) (IsNumber screening_length (value (codes "lambda")))
+      (some_number readings permittivity (value (codes "eps"))) (some_number readings screening_length (value (codes "lambda"))))
+      (both Levels Charges
+      (both (IsNumber level_depth (value (codes "depth"))) (IsNumber level_gap (value (codes "gap")))
+      (some_number readings level_depth (value (codes "depth"))) (some_number readings level_gap (value (codes "gap"))))
+      (both (IsNumber coulomb_number (value (codes "coulomb"))) (IsBase (value (codes "base")))
+      (some_number readings coulomb_number (value (codes "coulomb"))) (some_base (value (codes "base"))))))
+    where
+      to : (x : (ℤ × ℤ) × ((ℤ × ℤ) × (ℤ × ℕ))) → Both Lengths (Both Levels Charges) x → (p : Params) × AreParams value p
+      to ((eps, lam), ((depth, gap), (coulomb, base))) ((is_eps, is_lam), ((is_depth, is_gap), (is_coulomb, is_base))) = (
+        record {
+          coulomb = coulomb;
+          eps = eps;
+          lam = lam;
+          depth = depth;
+          gap = gap;
+          base = base;
+          in_range = params_in_range value coulomb eps lam depth gap base is_coulomb is_eps is_lam is_depth is_gap is_base;
+        },
+        record { coulomb = is_coulomb; eps = is_eps; lam = is_lam; depth = is_depth; gap = is_gap; base = is_base },
+      )
+
+      back : (p : Params) → AreParams value p → (x : (ℤ × ℤ) × ((ℤ × ℤ) × (ℤ × ℕ))) × Both Lengths (Both Levels Charges) x
+      back p are = (
+        ((p.eps, p.lam), ((p.depth, p.gap), (p.coulomb, p.base))),
+        ((are.eps, are.lam), ((are.depth, are.gap), (are.coulomb, are.base))),
+      )
+
+  -- the numbers of the options of a search
+  abbrev Counts : ℕ × ℕ → Type 0
+  Counts = Both (λ n. IsNumber node_limit (value (codes "limit")) (pos n)) (λ n. IsNumber worker_count (value (codes "workers")) (pos n))
+
+  -- the options give limits of a search, or give none
+  pub some_search : HasSomeOrNone (AreSearchSettings value)
+  some_search =
+      moved Counts (AreSearchSettings value) to back
+      (both (λ n. IsNumber node_limit (value (codes "limit")) (pos n)) (λ n. IsNumber worker_count (value (codes "workers")) (pos n))
+      (some_count readings node_limit 1000000 refl (value (codes "limit"))) (some_count readings worker_count 4 refl (value (codes "workers"))))
+    where
+      to : (x : ℕ × ℕ) → Counts x → (s : SearchSettings) × AreSearchSettings value s
+      to (limit, workers) (is_limit, is_workers) = (
+        record { limit = limit; workers = workers; in_range = limits_in_range value limit workers is_limit is_workers },
+        record { limit = is_limit; workers = is_workers },
+      )
+
+      back : (s : SearchSettings) → AreSearchSettings value s → (x : ℕ × ℕ) × Counts x
+      back s are = ((s.limit, s.workers), (are.limit, are.workers))
+
+  -- the flags of the report
+  abbrev Flags : Bool × Bool → Type 0
+  Flags = Both (IsGiven (value (codes "json"))) (IsGiven (value (codes "energies")))
+
+  -- the flags give settings of a report, or give none
+  pub some_report : HasSomeOrNone (AreReportSettings value)
+  some_report =
+      moved Flags (AreReportSettings value) to back
+      (both (IsGiven (value (codes "json"))) (IsGiven (value (codes "energies"))) (some_flag (value (codes "json"))) (some_flag (value (codes "energies"))))
+    where
+      to : (x : Bool × Bool) → Flags x → (r : ReportSettings) × AreReportSettings value r
+      to (json, energies) (is_json, is_energies) = (record { json = json; energies = energies }, record { json = is_json; energies = is_energies })
+
+      back : (r : ReportSettings) → AreReportSettings value r → (x : Bool × Bool) × Flags x
+      back r are = ((r.json, r.energies), (are.json, are.energies))
