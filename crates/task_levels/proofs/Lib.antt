@@ -1,3 +1,4 @@
+pub mod EntryLists
 pub mod OneAnswer
 pub mod SomeAnswer
 pub mod Told

@@ -28,9 +28,9 @@ pub record IsWindowReport (s : Settings) (about : About) (p : Problem) (text : L
 abbrev pub IsWindowUnlisted : Settings → Problem → Status → List ℕ → Type 0
 IsWindowUnlisted s p status text =
     (IsWindowOverBudget p s.levels.window.width s.search.limit
-        × IsBudgetAnswer s.search.limit status text)
+    × IsBudgetAnswer s.search.limit status text)
     ⊎ (IsWindowTooLongWithin p s.levels.window.width s.search.limit
-        × IsLongListAnswer status text)
+    × IsLongListAnswer status text)
 
 -- that text, or the line that says why there is none
 abbrev pub IsWindowListAnswer : Settings → About → Problem → Status → List ℕ → Type 0

@@ -1,0 +1,17 @@
+-- the entries of a window list are charge lists
+use Rattle.std.proofs.Common.{suc, ℤ, List, [], ◌∷◌, map, arith}
+use Rattle.std.specs.Prelude.{All}
+use Rattle.std.proofs.lemmas.List.Elements.{All-nil, All-cons}
+use Rattle.charge_model.specs.Problem.{Problem}
+use Rattle.charge_model.specs.Rules.{IsChargeList}
+use Rattle.charge_model.specs.GroundList.{Entry}
+use Rattle.window_model.specs.Windows.{IsMarkedWindowList, IsWithin}
+use Rattle.ground_report.specs.Subject.{AreOf}
+
+-- the entries of a marked window list are charge lists of the problem
+pub entries_of : (p : Problem) (window : ℤ) (es : List Entry) → IsMarkedWindowList p window es → AreOf p es
+entries_of p window es is = listed es is.within.only_listed
+  where
+    listed : (es : List Entry) → All (IsWithin p window) (map (λ e. e.charges) es) → All (λ e. IsChargeList p e.charges) es
+    listed [] all = All-nil (λ (e : Entry). IsChargeList p e.charges)
+    listed (e ∷ es) all = All-cons (λ (e : Entry). IsChargeList p e.charges) e es (all 0 e.charges (omega arith)).is_list (listed es (λ k d less. all (suc k) d (omega arith)))
