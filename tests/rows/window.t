@@ -64,3 +64,17 @@ A window is at most 2 eV.
   $ sidb --form table --task window --window 3 < near.table
   fault words
   [2]
+
+It is a decimal without a sign, of at most twelve places.
+
+  $ sidb --form table --task window --window -1 < near.table
+  fault words
+  [2]
+  $ sidb --form table --task window --window 0.0000000000001 < near.table
+  fault words
+  [2]
+
+Behind its title a window of 0 prints what the ground list prints.
+
+  $ sidb --form table < four.table | tail -n +2 > ground
+  $ sidb --form table --task window < four.table | tail -n +3 | cmp - ground
