@@ -20,8 +20,6 @@ mod of_sidb_layout;
 #[cfg(test)]
 mod of_sidb_units;
 #[cfg(test)]
-mod of_sim_report;
-#[cfg(test)]
 mod of_sqd_layout;
 #[cfg(test)]
 mod of_sqd_marks;

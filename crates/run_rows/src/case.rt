@@ -46,10 +46,11 @@ pub fn outcome<R: Threads + Sync, G: Gate>(
     gate: &G,
 ) -> Result<(u8, Vec<u8>), Fail> {
     let words = word_list(alloc, case.words)?;
+    let piece = case.piece.max(1);
     let bytes = case.input.as_bytes().to_vec(alloc)?;
-    let mut source = MemSource::new(bytes, case.piece, numbers(alloc, case.failed_read)?);
+    let mut source = MemSource::new(bytes, piece, numbers(alloc, case.failed_read)?);
     let room = Vec::with_capacity(alloc, 8192)?;
-    let mut sink = MemSink::new(room, case.piece, numbers(alloc, case.failed_write)?);
+    let mut sink = MemSink::new(room, piece, numbers(alloc, case.failed_write)?);
     let status = run(rt, alloc, &words, &mut source, &mut sink, gate);
     Ok((code(&status), sink.written().to_vec(alloc)?))
 }
