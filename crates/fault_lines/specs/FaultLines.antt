@@ -8,7 +8,7 @@ use Rattle.table_reading.specs.declared.fault.TableFault.TheVariants as table
 use Rattle.sqd_layout.specs.declared.fault.SqdFault.{SqdFault}
 use Rattle.sqd_layout.specs.declared.fault.SqdFault.TheVariants as layout
 use Rattle.fault_lines.specs.declared.input_fault.InputFault.{InputFault}
-use Rattle.fault_lines.specs.declared.input_fault.InputFault.TheVariants.{TooLong, Layout, Table}
+use Rattle.fault_lines.specs.declared.input_fault.InputFault.TheVariants.{TooLong, Layout, Table, GateSite}
 
 -- the word of what is wrong with a line
 abbrev pub why_word : LineWhy → List ℕ
@@ -49,6 +49,7 @@ abbrev pub input_fault_words : InputFault → List (List ℕ)
 input_fault_words TooLong = codes "too-long" ∷ []
 input_fault_words (Layout fault) = layout_fault_words fault
 input_fault_words (Table fault) = codes "table" ∷ table_fault_words fault
+input_fault_words (GateSite place) = codes "gate-site" ∷ decimal place ∷ []
 
 -- a fault of the input itself, and not that memory ran out
 pub record IsNamed (fault : InputFault) : Type 0 where

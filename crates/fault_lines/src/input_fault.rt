@@ -10,4 +10,6 @@ pub enum InputFault {
     Layout(SqdFault),
     /// The first fault of a table text.
     Table(TableFault),
+    /// The first place that a gate's pairs name and that is no site of the layout.
+    GateSite(usize),
 }

@@ -37,5 +37,6 @@ pub fn input_line(alloc: Global, fault: InputFault) -> Result<String, Memory>
         InputFault::TooLong => Ok("fault input too-long\n".to_string(alloc)?),
         InputFault::Layout(fault) => layout_line(alloc, fault),
         InputFault::Table(fault) => table_line(alloc, fault),
+        InputFault::GateSite(place) => Ok(format!(in alloc; "fault input gate-site {place}\n")?),
     }
 }

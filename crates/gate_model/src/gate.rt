@@ -60,6 +60,20 @@ impl LogicSpec {
         self.outputs[k]
     }
 
+    /// The input pairs.
+    pub fn input_pairs(&self) -> &[PairOf]
+        ensures { result.now ≡ self.now.inputs }
+    {
+        self.inputs.as_slice()
+    }
+
+    /// The output pairs.
+    pub fn output_pairs(&self) -> &[PairOf]
+        ensures { result.now ≡ self.now.outputs }
+    {
+        self.outputs.as_slice()
+    }
+
     /// How many patterns of its inputs there are.
     pub fn patterns(&self) -> u64
         ensures value { result ≡ pattern_count self.now }

@@ -1,5 +1,5 @@
 -- what is written, followed by what is due for the rest of a list, is the whole
-use Rattle.std.proofs.Common.{◌≡◌, ◌∙◌, ap, sym, refl, ℕ, ◌+◌, ◌<◌, ◌≤◌, List, [], ◌∷◌, ◌++◌, append_assoc, length, map, drop, Some, arith, drop-cons, add-one}
+use Rattle.std.proofs.Common.{◌≡◌, ◌∙◌, ap, sym, refl, ℕ, suc, ◌+◌, ◌<◌, ◌≤◌, List, [], ◌∷◌, ◌++◌, append_assoc, length, map, drop, Some, arith, drop-cons, add-one}
 use Rattle.std.proofs.lemmas.List.{append-nil, drop_all}
 use Rattle.std.proofs.lemmas.Option.{slice_get_within, get_or_from_slice_get}
 use Rattle.std.specs.List.{slice_get, join_with_byte}
@@ -16,7 +16,7 @@ use Rattle.gate_report.specs.GateJson.{cell_data, pattern_data, patterns_data}
 pub rest_at : {X : Type 0} (t : List X) (k : ℕ) (x : X) → slice_get t k ≡ Some x → drop k t ≡ x ∷ drop (k + 1) t
 rest_at t k x here =
     let lt : k < length t = slice_get_within t k x here in
-    drop-cons t k x lt ∙ ap (λ y. y ∷ drop (k + 1) t) (get_or_from_slice_get t k x x here)
+    drop-cons t k x lt ∙ ap (λ y. y ∷ drop (suc k) t) (get_or_from_slice_get t k x x here) ∙ ap (λ n. x ∷ drop n t) (sym (add-one k))
 
 pub nothing_left : {X : Type 0} (t : List X) (k : ℕ) → length t ≤ k → drop k t ≡ []
 nothing_left t k past = drop_all k t past
@@ -98,3 +98,8 @@ pub line_and_entries : (row : List (List ℕ)) (rows : List (List (List ℕ))) (
 line_and_entries row rows base line entries one two three is are first second third =
     third ∙ ap (λ t. t ++ entries) (second ∙ ap (λ t. t ++ 10 ∷ []) (first ∙ ap (λ t. base ++ t) is)) ∙ ap (λ t. ((base ++ join_with_byte 32 row) ++ 10 ∷ []) ++ t) are
     ∙ append_assoc (base ++ join_with_byte 32 row) (10 ∷ []) (text_of rows) ∙ append_assoc base (join_with_byte 32 row) (10 ∷ text_of rows)
+
+-- a line behind a text
+pub line_added : (base line joined one two : List ℕ) → line ≡ joined → one ≡ base ++ line → two ≡ one ++ 10 ∷ [] → two ≡ base ++ (joined ++ 10 ∷ [])
+line_added base line joined one two is first second =
+    second ∙ ap (λ t. t ++ 10 ∷ []) (first ∙ ap (λ t. base ++ t) is) ∙ append_assoc base joined (10 ∷ [])

@@ -1,3 +1,4 @@
 pub mod Behind
 pub mod Overall
 pub mod NoFloats
+pub mod Certain

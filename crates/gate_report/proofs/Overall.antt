@@ -18,14 +18,17 @@ overall_at t k a v here is = ap (overall k) (rest_at t k a here) ∙ ap (λ w. v
 pub overall_end : (t : List PatternAnswer) (k : ℕ) → length t ≤ k → overall k (drop k t) ≡ Works
 overall_end t k past = ap (overall k) (nothing_left t k past)
 
-works_from : (k : ℕ) (t : List PatternAnswer) → overall k t ≡ Works → All (λ a. a.verdict ≡ PatternWorks) t
+abbrev AllWork : List PatternAnswer → Type 0
+AllWork t = All (λ a. a.verdict ≡ PatternWorks) t
+
+works_first : (k : ℕ) (a : PatternAnswer) (t : List PatternAnswer) (v : PatternVerdict) → a.verdict ≡ v → verdict_or v k (overall (k + 1) t) ≡ Works → (overall (k + 1) t ≡ Works → AllWork t) → AllWork (a ∷ t)
+works_first k a t PatternWorks is e later = All-cons (λ b. b.verdict ≡ PatternWorks) a t is (later e)
+works_first k a t PatternFails is e later = absurd (cc)
+works_first k a t PatternUndecided is e later = absurd (cc)
+
+works_from : (k : ℕ) (t : List PatternAnswer) → overall k t ≡ Works → AllWork t
 works_from k [] e = All-nil (λ a. a.verdict ≡ PatternWorks)
-works_from k (a ∷ t) e = by a.verdict refl e
-  where
-    by : (v : PatternVerdict) → a.verdict ≡ v → verdict_or v k (overall (k + 1) t) ≡ Works → All (λ b. b.verdict ≡ PatternWorks) (a ∷ t)
-    by PatternWorks is later = All-cons (λ b. b.verdict ≡ PatternWorks) a t is (works_from (k + 1) t later)
-    by PatternFails is later = absurd (cc)
-    by PatternUndecided is later = absurd (cc)
+works_from k (a ∷ t) e = works_first k a t a.verdict refl e (works_from (k + 1) t)
 
 pub works_each : (t : List PatternAnswer) → overall 0 t ≡ Works → All (λ a. a.verdict ≡ PatternWorks) t
 works_each t e = works_from 0 t e

@@ -21,13 +21,18 @@ abbrev pub patterns_data : ℕ → List PatternAnswer → List Data
 patterns_data k [] = []
 patterns_data k (a ∷ later) = pattern_data k a ∷ patterns_data (k + 1) later
 
+-- a function, its patterns, and what the gate does
+abbrev pub table_data : List ℕ → Data → List ℕ → Data
+table_data name patterns verdict = object (member (codes "function") (string name)
+    (member (codes "kind") (string (codes "sidb-truth"))
+    (member (codes "patterns") patterns
+    (member (codes "verdict") (string verdict)
+    (member (codes "version") (natural 1) no_members)))))
+
 -- a truth table
 abbrev pub truth_data : List ℕ → List PatternAnswer → Data
-truth_data name t = object (member (codes "function") (string name)
-    (member (codes "kind") (string (codes "sidb-truth"))
-    (member (codes "patterns") (array (items_of (patterns_data 0 t)))
-    (member (codes "verdict") (string (answer_text (overall 0 t)))
-    (member (codes "version") (natural 1) no_members)))))
+truth_data name t =
+    table_data name (array (items_of (patterns_data 0 t))) (answer_text (overall 0 t))
 
 -- its line
 abbrev pub truth_json : List ℕ → List PatternAnswer → List ℕ

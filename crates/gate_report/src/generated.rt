@@ -1,5 +1,5 @@
 ghost use Rattle.std.specs.Prelude.{◌≡◌, ◌≤◌, length, string_bytes, IfOk};
-ghost use Rattle.gate_report.specs.GenText.{count_certain, gen_text};
+ghost use Rattle.gate_report.specs.GenText.{count_certain, gen_text, is_certain};
 
 use charge_model::Mark;
 use ground_entries::{GroundList, Solved};

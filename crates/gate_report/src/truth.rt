@@ -1,10 +1,10 @@
 ghost use Rattle.std.specs.Prelude.{◌≡◌, map, string_bytes, IfOk};
 ghost use Rattle.serde_json.specs.View.{view};
-ghost use Rattle.gate_report.specs.GateJson.{pattern_data, patterns_data, truth_data, truth_json};
+ghost use Rattle.gate_report.specs.GateJson.{pattern_data, patterns_data, table_data, truth_data, truth_json};
 
 use crate::answers::{answer_text, overall, verdict_word};
 use bdl_pairs::{PatternAnswer, Truth};
-use serde_json::{Value, json};
+use serde_json::{Map, Value, json, put};
 use sidb_units::Memory;
 use sim_report_json::laws::entries_have_no_floats;
 use sim_report_json::plain_values;
@@ -27,11 +27,29 @@ fn truth_value(alloc: Global, name: &str, truth: &Truth) -> Result<Value, Memory
 {
     let patterns = Value::Array(pattern_values(alloc, truth)?);
     let verdict = answer_text(alloc, overall(truth))?;
-    let verdict = verdict.as_str();
-    Ok(json!(in alloc; {
-        "function": name, "kind": "sidb-truth", "patterns": patterns, "verdict": verdict,
-        "version": 1u64
-    })?)
+    let value = table_value(alloc, name, patterns, verdict.as_str())?;
+    Ok(value)
+}
+
+/// The report of a function, its patterns and what the gate does.
+fn table_value(
+    alloc: Global,
+    name: &str,
+    patterns: Value,
+    verdict: &str,
+) -> Result<Value, Memory>
+    ensures { IfOk result (λ value. view value ≡ table_data name.now (view patterns) verdict.now) }
+{
+    let name = name.to_string(alloc)?;
+    let kind = "sidb-truth".to_string(alloc)?;
+    let verdict = verdict.to_string(alloc)?;
+    let mut members = Map::new(alloc);
+    put(&mut members, alloc, "function", Value::String(name))?;
+    put(&mut members, alloc, "kind", Value::String(kind))?;
+    put(&mut members, alloc, "patterns", patterns)?;
+    put(&mut members, alloc, "verdict", Value::String(verdict))?;
+    put(&mut members, alloc, "version", Value::from(1u64))?;
+    Ok(Value::Object(members))
 }
 
 /// The patterns.

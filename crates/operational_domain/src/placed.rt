@@ -40,6 +40,13 @@ impl PlacedGate {
         self.alloc
     }
 
+    /// The gate.
+    pub fn gate(&self) -> &LogicSpec
+        ensures { result.now ≡ self.now.gate }
+    {
+        &self.gate
+    }
+
     /// How many patterns the gate has.
     pub fn patterns(&self) -> u64
         ensures value { result ≡ pattern_count self.now.gate }

@@ -1,0 +1,4 @@
+pub mod Sites
+pub mod Cells
+pub mod Told
+pub mod Dues

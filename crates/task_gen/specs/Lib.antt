@@ -1,0 +1,3 @@
+pub use Rattle.gate_report.specs.GenText
+pub mod Generator
+pub mod GenAnswer

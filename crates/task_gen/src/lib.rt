@@ -1,0 +1,12 @@
+//! The task that solves a layout which a number generates, and prints a summary.
+#![tactic(auto)]
+
+mod answer;
+mod generator;
+mod layout;
+mod request;
+
+pub use answer::gen_answer;
+pub use generator::generated_sites;
+pub use layout::generated_layout;
+pub use request::GenRequest;
