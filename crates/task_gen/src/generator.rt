@@ -25,14 +25,14 @@ fn drawn(state: u64) -> u64
 
 /// A site, the column that it stands in, and the state behind its draws.
 #[derive(Clone, Copy)]
-struct Step {
+struct Drawing {
     site: Site,
     column: u64,
     state: u64,
 }
 
 /// The next site.
-fn step(state: u64, column: u64) -> Step
+fn site_after(state: u64, column: u64) -> Drawing
     requires { column ≤ 440 }
     ensures site { result.site ≡ site_by state column }
     ensures column { result.column ≡ column_after state column }
@@ -43,7 +43,7 @@ fn step(state: u64, column: u64) -> Step
     let second = next_state(first);
     let third = next_state(second);
     let column = column + (drawn(first) % 8 + 4);
-    Step {
+    Drawing {
         site: Site {
             n: column as i64,
             m: (drawn(second) % 3) as i64,
@@ -65,10 +65,10 @@ pub fn generated_sites(alloc: Global, number: u64, count: u64) -> Result<Vec<Sit
     let mut column = 0;
     let mut state = number;
     for i in 0..count {
-        let step = step(state, column);
-        sites.push(step.site)?;
-        column = step.column;
-        state = step.state;
+        let next = site_after(state, column);
+        sites.push(next.site)?;
+        column = next.column;
+        state = next.state;
     }
     Ok(sites)
 }
