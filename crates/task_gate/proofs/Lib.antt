@@ -1,4 +1,4 @@
-pub mod Sites
+pub mod Places
 pub mod Cells
 pub mod Told
 pub mod Dues

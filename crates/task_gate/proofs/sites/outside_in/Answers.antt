@@ -3,7 +3,7 @@ use Rattle.std.specs.Prelude.{All}
 use Rattle.std.proofs.lemmas.List.{take_all}
 use Rattle.std.proofs.lemmas.List.Elements.{All-more}
 use Rattle.task_gate.specs.GateSite.{ArePlaces}
-use Rattle.task_gate.proofs.Sites.{first_a, first_b, goes_on}
+use Rattle.task_gate.proofs.Places.{first_a, first_b, goes_on}
 use Rattle.task_gate.proofs.sites.outside_in.Goals as goal
 
 pub returns-then-sites-le-a : goal.returns-then-sites-le-a

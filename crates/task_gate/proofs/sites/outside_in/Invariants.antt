@@ -1,7 +1,7 @@
 use Rattle.std.proofs.Common.{take}
 use Rattle.std.specs.Prelude.{All}
 use Rattle.task_gate.specs.GateSite.{ArePlaces}
-use Rattle.task_gate.proofs.Sites.{GoesBack}
+use Rattle.task_gate.proofs.Places.{GoesBack}
 use Rattle.task_gate.proofs.sites.outside_in.Given as goal
 
 abbrev pub invariant-loop-k : goal.invariant-loop-k
