@@ -1,7 +1,7 @@
 -- the first place that is no site
-use Rattle.std.proofs.Common.{◌≡◌, ◌∙◌, sym, ap, refl, subst, ℕ, suc, ◌+◌, ◌<◌, ◌≤◌, ◌⊎◌, inl, inr, List, [], ◌∷◌, ◌++◌, length, get_or, drop, drop-cons, add-one, arith, Option, None, Some}
+use Rattle.std.proofs.Common.{◌≡◌, ◌∙◌, sym, ap, refl, subst, ℕ, suc, ◌+◌, ◌<◌, ◌≤◌, ◌⊎◌, inl, inr, List, [], ◌∷◌, ◌++◌, length, get_or, take, drop, drop-cons, add-one, arith, Option, None, Some}
 use Rattle.std.specs.Prelude.{All, IfNone, IfSome, MatchOption}
-use Rattle.std.proofs.lemmas.List.Elements.{All-weaker}
+use Rattle.std.proofs.lemmas.List.Elements.{All-more, All-weaker}
 use Rattle.sidb_layout.specs.declared.site.Site.{Site}
 use Rattle.gate_model.specs.declared.pairs.PairOf.{PairOf}
 use Rattle.gate_model.specs.Logic.{Logic, places_in}
@@ -24,6 +24,10 @@ first_a n pairs k d lt a back = back (get_or pairs k d).a (subst (λ l. IsFirstF
 
 pub first_b : (n : ℕ) (pairs : List PairOf) (k : ℕ) (d : PairOf) → k < length pairs → (get_or pairs k d).a < n → n ≤ (get_or pairs k d).b → GoesBack n pairs k → IsFirstFrom n (places_in pairs) (get_or pairs k d).b
 first_b n pairs k d lt a b back = back (get_or pairs k d).b (subst (λ l. IsFirstFrom n l (get_or pairs k d).b) (sym (rest_at pairs k d lt)) (inr (a, inl (b, refl))))
+
+-- one more pair of places
+pub more_places : (n : ℕ) (pairs : List PairOf) (k : ℕ) (d : PairOf) → k < length pairs → All (ArePlaces n) (take k pairs) → (get_or pairs k d).a < n → (get_or pairs k d).b < n → All (ArePlaces n) (take (k + 1) pairs)
+more_places n pairs k d lt all a b = All-more (ArePlaces n) pairs k d lt all (record { a = a; b = b })
 
 -- first of the inputs, or of the outputs where all inputs are places
 in_front : (n : ℕ) (xs ys : List ℕ) (place : ℕ) → IsFirstFrom n xs place → IsFirstFrom n (xs ++ ys) place
