@@ -10,13 +10,14 @@ use Rattle.model_params.specs.declared.quantity.Quantity.{Quantity}
 use Rattle.model_params.specs.Quantities.{coulomb_number, level_depth, level_gap, permittivity, screening_length}
 use Rattle.command_words.specs.declared.settings.Settings.{Settings}
 use Rattle.command_words.specs.declared.settings.SearchSettings.{SearchSettings}
+use Rattle.command_words.specs.declared.settings.GeneratedSettings.{GeneratedSettings}
 use Rattle.command_words.specs.declared.settings.LevelSettings.{LevelSettings}
 use Rattle.command_words.specs.declared.settings.ReportSettings.{ReportSettings}
 use Rattle.command_words.specs.declared.settings.Task.{Task}
 use Rattle.command_words.specs.declared.settings.Form.{Form}
-use Rattle.command_words.specs.Limits.{AreSearchLimits, node_limit, window_width, worker_count}
+use Rattle.command_words.specs.Limits.{AreGeneratedNumbers, AreSearchLimits, generated_sites, generator_number, node_limit, window_width, worker_count}
 use Rattle.command_words.specs.Options.{IsBase, IsGiven, IsNumber}
-use Rattle.command_words.specs.Settings.{AreLevelSettings, AreParams, AreReportSettings, AreSearchSettings, AreSettings}
+use Rattle.command_words.specs.Settings.{AreGeneratedSettings, AreLevelSettings, AreParams, AreReportSettings, AreSearchSettings, AreSettings}
 use Rattle.command_words.proofs.Choices.{one_form, one_task}
 
 -- a text is read as one number
@@ -115,6 +116,28 @@ one_level once value l m a b =
     made : Window → LevelSettings
     made window = record { window = window }
 
+-- there is one proof that the numbers of a generated layout are in range
+one_generated_range : (number sites : ℕ) (a b : AreGeneratedNumbers number sites) → a ≡ b
+one_generated_range number sites = hlevel props
+
+-- a generated layout has one meaning
+one_generated : IsReadOnce → (value : Text → Option Text) (g h : GeneratedSettings) → AreGeneratedSettings value g → AreGeneratedSettings value h → g ≡ h
+one_generated once value g h a b =
+    let numbers : pos g.number ≡ pos h.number = one_number once generator_number (value (codes "number")) (pos g.number) (pos h.number) a.number b.number in
+    let counts : pos g.sites ≡ pos h.sites = one_number once generated_sites (value (codes "sites")) (pos g.sites) (pos h.sites) a.sites b.sites in
+    let number : g.number ≡ h.number = cc in
+    let sites : g.sites ≡ h.sites = cc in
+    same g.number h.number g.sites h.sites number sites g.in_range h.in_range
+  where
+    made : (number sites : ℕ) → AreGeneratedNumbers number sites → GeneratedSettings
+    made number sites within = record { number = number; sites = sites; in_range = within }
+
+    same : (a b c d : ℕ) → a ≡ b → c ≡ d → (x : AreGeneratedNumbers a c) (y : AreGeneratedNumbers b d) → made a c x ≡ made b d y
+    same a b c d first second =
+        subst (λ (e : ℕ). (x : AreGeneratedNumbers a c) (y : AreGeneratedNumbers e d) → made a c x ≡ made e d y) first
+        (subst (λ (e : ℕ). (x : AreGeneratedNumbers a c) (y : AreGeneratedNumbers a e) → made a c x ≡ made a e y) second
+        (λ x y. ap (made a c) (one_generated_range a c x y)))
+
 -- the settings of a report have one meaning
 one_report : (value : Text → Option Text) (r t : ReportSettings) → AreReportSettings value r → AreReportSettings value t → r ≡ t
 one_report value r t a b =
@@ -123,16 +146,17 @@ one_report value r t a b =
     (one_flag (value (codes "energies")) r.energies t.energies a.energies b.energies)
 
 -- settings are given by their groups
-same_settings : (t u : Task) (f h : Form) (p q : Params) (s r : SearchSettings) (m n : ReportSettings) (l k : LevelSettings) → t ≡ u → f ≡ h → p ≡ q → s ≡ r → m ≡ n → l ≡ k
-    → ◌≡◌ {A = Settings} (record { task = t; form = f; params = p; search = s; report = m; levels = l }) (record { task = u; form = h; params = q; search = r; report = n; levels = k })
-same_settings t u f h p q s r m n l k task form params search report levels = cc
+same_settings : (t u : Task) (f h : Form) (p q : Params) (s r : SearchSettings) (m n : ReportSettings) (l k : LevelSettings) (g i : GeneratedSettings) → t ≡ u → f ≡ h → p ≡ q → s ≡ r → m ≡ n → l ≡ k → g ≡ i
+    → ◌≡◌ {A = Settings} (record { task = t; form = f; params = p; search = s; report = m; levels = l; generated = g }) (record { task = u; form = h; params = q; search = r; report = n; levels = k; generated = i })
+same_settings t u f h p q s r m n l k g i task form params search report levels generated = cc
 
 pub one_settings : IsReadOnce → AreGivenByNumbers → (value : Text → Option Text) (a b : Settings) → AreSettings value a → AreSettings value b → a ≡ b
 one_settings once given value a b e f =
-    same_settings a.task b.task a.form b.form a.params b.params a.search b.search a.report b.report a.levels b.levels
+    same_settings a.task b.task a.form b.form a.params b.params a.search b.search a.report b.report a.levels b.levels a.generated b.generated
     (one_task (value (codes "task")) a.task b.task e.task f.task)
     (one_form (value (codes "form")) a.form b.form e.form f.form)
     (one_params once given value a.params b.params e.params f.params)
     (one_search once value a.search b.search e.search f.search)
     (one_report value a.report b.report e.report f.report)
     (one_level once value a.levels b.levels e.levels f.levels)
+    (one_generated once value a.generated b.generated e.generated f.generated)

@@ -5,6 +5,7 @@ use Rattle.clap.specs.declared.error.kind.ErrorKind.TheVariants as kind
 use Rattle.clap.proofs.OnLiterals.{clap_on_literals}
 use Rattle.window_model.specs.declared.window.Window.{Window}
 use Rattle.command_words.specs.declared.settings.Settings.{Settings}
+use Rattle.command_words.specs.declared.settings.GeneratedSettings.{GeneratedSettings}
 use Rattle.command_words.specs.declared.settings.SearchSettings.{SearchSettings}
 use Rattle.command_words.specs.declared.settings.Task.TheVariants.{Ground}
 use Rattle.command_words.specs.declared.settings.Form.TheVariants.{Sites}
@@ -95,6 +96,17 @@ preset_search = record {
 abbrev pub no_window : Window
 no_window = record { width = pos 0; is_window = record { least = omega (arith, ints); greatest = omega (arith, ints) } }
 
+-- 40 sites by the number 0
+abbrev pub preset_generated : GeneratedSettings
+preset_generated = record {
+  number = 0;
+  sites = 40;
+  in_range = record {
+    number_within = record { from = omega (arith, ints); to = omega (arith, ints) };
+    sites_within = record { from = omega (arith, ints); to = omega (arith, ints) };
+  };
+}
+
 -- no words mean the preset settings
 abbrev pub preset : Settings
 preset = record {
@@ -104,6 +116,7 @@ preset = record {
   search = preset_search;
   report = record { json = false; energies = false };
   levels = record { window = no_window };
+  generated = preset_generated;
 }
 
 pub preset_settings : AreSettings (value_of []) preset
@@ -115,6 +128,7 @@ preset_settings = record {
   search = record { limit = refl; workers = refl };
   report = record { json = (λ given. absurd (cc), λ e. absurd (cc)); energies = (λ given. absurd (cc), λ e. absurd (cc)) };
   levels = record { window = refl };
+  generated = record { number = refl; sites = refl };
 }
 
 pub no_words_mean_preset : IsSettingsOf [] preset

@@ -4,16 +4,17 @@ use Rattle.clap.specs.Walk.{Text}
 use Rattle.model_params.specs.declared.params.Params.{Params}
 use Rattle.model_params.specs.Quantities.{coulomb_number, level_depth, level_gap, permittivity, screening_length}
 use Rattle.command_words.specs.declared.settings.Task.{Task}
-use Rattle.command_words.specs.declared.settings.Task.TheVariants.{Ground, Potentials, Certify, Check, Window}
+use Rattle.command_words.specs.declared.settings.Task.TheVariants.{Ground, Potentials, Certify, Check, Window, Gen}
 use Rattle.command_words.specs.declared.settings.Form.{Form}
 use Rattle.command_words.specs.declared.settings.Form.TheVariants.{Sites, Sqd, Table}
 use Rattle.command_words.specs.declared.settings.SearchSettings.{SearchSettings}
+use Rattle.command_words.specs.declared.settings.GeneratedSettings.{GeneratedSettings}
 use Rattle.command_words.specs.declared.settings.LevelSettings.{LevelSettings}
 use Rattle.command_words.specs.declared.settings.ReportSettings.{ReportSettings}
 use Rattle.command_words.specs.declared.settings.Settings.{Settings}
 use Rattle.command_words.specs.Command.{refusals_of, value_of}
 use Rattle.command_words.specs.Options.{IsBase, IsChoice, IsGiven, IsNumber}
-use Rattle.command_words.specs.Limits.{node_limit, window_width, worker_count}
+use Rattle.command_words.specs.Limits.{generated_sites, generator_number, node_limit, window_width, worker_count}
 
 -- the names of the tasks
 abbrev pub task_name : Task → Text
@@ -22,6 +23,7 @@ task_name Potentials = codes "potentials"
 task_name Certify = codes "certify"
 task_name Check = codes "check"
 task_name Window = codes "window"
+task_name Gen = codes "gen"
 
 -- the names of the forms
 abbrev pub form_name : Form → Text
@@ -47,6 +49,11 @@ pub record AreSearchSettings (value : Text → Option Text) (s : SearchSettings)
 pub record AreLevelSettings (value : Text → Option Text) (l : LevelSettings) : Type 0 where
   pub window : IsNumber window_width (value (codes "window")) l.window.width
 
+-- the numbers of a generated layout are these values of their options
+pub record AreGeneratedSettings (value : Text → Option Text) (g : GeneratedSettings) : Type 0 where
+  pub number : IsNumber generator_number (value (codes "number")) (pos g.number)
+  pub sites : IsNumber generated_sites (value (codes "sites")) (pos g.sites)
+
 -- the settings of the report are these values of its flags
 pub record AreReportSettings (value : Text → Option Text) (r : ReportSettings) : Type 0 where
   pub json : IsGiven (value (codes "json")) r.json
@@ -60,6 +67,7 @@ pub record AreSettings (value : Text → Option Text) (s : Settings) : Type 0 wh
   pub search : AreSearchSettings value s.search
   pub report : AreReportSettings value s.report
   pub levels : AreLevelSettings value s.levels
+  pub generated : AreGeneratedSettings value s.generated
 
 -- the words mean these settings: clap gives matches, and these are their values
 pub record IsSettingsOf (words : List Text) (s : Settings) : Type 0 where

@@ -10,5 +10,7 @@ mod settings;
 mod words;
 
 pub use model_params::Params;
-pub use settings::{Form, LevelSettings, ReportSettings, SearchSettings, Settings, Task};
+pub use settings::{
+    Form, GeneratedSettings, LevelSettings, ReportSettings, SearchSettings, Settings, Task,
+};
 pub use words::read_words;

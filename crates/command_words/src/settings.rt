@@ -1,4 +1,4 @@
-ghost use Rattle.command_words.specs.Limits.{AreSearchLimits};
+ghost use Rattle.command_words.specs.Limits.{AreGeneratedNumbers, AreSearchLimits};
 
 use model_params::Params;
 use window_model::Window;
@@ -16,6 +16,8 @@ pub enum Task {
     Check,
     /// Prints the window list of a problem.
     Window,
+    /// Searches a generated layout, and prints what came of it.
+    Gen,
 }
 
 /// The form of a run's input.
@@ -46,6 +48,16 @@ pub struct LevelSettings {
     pub window: Window,
 }
 
+/// Which layout is generated.
+#[derive(Clone, Copy)]
+pub struct GeneratedSettings {
+    /// The number that the generator begins with.
+    pub number: u64,
+    /// How many sites the layout has.
+    pub sites: u64,
+    ghost in_range: { AreGeneratedNumbers number sites },
+}
+
 /// What a report has, and how it is written.
 #[derive(Clone, Copy, Debug, PartialEq, Eq)]
 pub struct ReportSettings {
@@ -64,4 +76,5 @@ pub struct Settings {
     pub search: SearchSettings,
     pub report: ReportSettings,
     pub levels: LevelSettings,
+    pub generated: GeneratedSettings,
 }

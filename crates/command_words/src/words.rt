@@ -7,7 +7,7 @@ ghost use Rattle.command_words.specs.Settings.{AreSettings, IsSettingsOf};
 use crate::Settings;
 use crate::choice::{form_in, task_in};
 use crate::command::simple_command;
-use crate::groups::{levels_in, params_in, report_in, search_in};
+use crate::groups::{generated_in, levels_in, params_in, report_in, search_in};
 use clap::ArgMatches;
 use clap::error::ErrorKind;
 use sidb_units::{Memory, WordList};
@@ -44,6 +44,7 @@ fn settings_in(matches: &ArgMatches<'_>) -> Option<Settings>
         search: search_in(matches)?,
         report: report_in(matches),
         levels: levels_in(matches)?,
+        generated: generated_in(matches)?,
     })
 }
 
