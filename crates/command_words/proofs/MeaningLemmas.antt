@@ -7,7 +7,7 @@ use Rattle.window_model.specs.declared.window.Window.{Window}
 use Rattle.window_model.specs.Windows.{IsWindow}
 use Rattle.model_params.specs.declared.params.Params.{Params}
 use Rattle.model_params.specs.declared.quantity.Quantity.{Quantity}
-use Rattle.model_params.specs.Quantities.{coulomb_number, level_depth, level_gap, permittivity, screening_length}
+use Rattle.model_params.specs.Quantities.{IsWithin, coulomb_number, level_depth, level_gap, permittivity, screening_length}
 use Rattle.command_words.specs.declared.settings.Settings.{Settings}
 use Rattle.command_words.specs.declared.settings.SearchSettings.{SearchSettings}
 use Rattle.command_words.specs.declared.settings.GeneratedSettings.{GeneratedSettings}
@@ -15,7 +15,7 @@ use Rattle.command_words.specs.declared.settings.LevelSettings.{LevelSettings}
 use Rattle.command_words.specs.declared.settings.ReportSettings.{ReportSettings}
 use Rattle.command_words.specs.declared.settings.Task.{Task}
 use Rattle.command_words.specs.declared.settings.Form.{Form}
-use Rattle.command_words.specs.Limits.{AreGeneratedNumbers, AreSearchLimits, generated_sites, generator_number, node_limit, window_width, worker_count}
+use Rattle.command_words.specs.Limits.{AreGeneratedNumbers, AreSearchLimits, generated_sites, generator_number, node_limit, thermal_energy, window_width, worker_count}
 use Rattle.command_words.specs.Options.{IsBase, IsGiven, IsNumber}
 use Rattle.command_words.specs.Settings.{AreGeneratedSettings, AreLevelSettings, AreParams, AreReportSettings, AreSearchSettings, AreSettings}
 use Rattle.command_words.proofs.Choices.{one_form, one_task}
@@ -108,13 +108,25 @@ one_window v w same = by v.width w.width same v.is_window w.is_window
     by : (a b : ℤ) → a ≡ b → (x : IsWindow a) (y : IsWindow b) → made a x ≡ made b y
     by a b same = subst (λ (e : ℤ). (x : IsWindow a) (y : IsWindow e) → made a x ≡ made e y) same (λ x y. ap (made a) (one_width a x y))
 
--- how far lists are looked for has one meaning
+-- there is one proof that a thermal energy is in range
+one_kt_range : (kt : ℤ) (a b : IsWithin thermal_energy kt) → a ≡ b
+one_kt_range kt = hlevel props
+
+-- the window and what lists are weighed by have one meaning
 one_level : IsReadOnce → (value : Text → Option Text) (l m : LevelSettings) → AreLevelSettings value l → AreLevelSettings value m → l ≡ m
 one_level once value l m a b =
-    ap made (one_window l.window m.window (one_number once window_width (value (codes "window")) l.window.width m.window.width a.window b.window))
+    same l.window m.window l.kt m.kt
+    (one_window l.window m.window (one_number once window_width (value (codes "window")) l.window.width m.window.width a.window b.window))
+    (one_number once thermal_energy (value (codes "kt")) l.kt m.kt a.kt b.kt) l.kt_in_range m.kt_in_range
   where
-    made : Window → LevelSettings
-    made window = record { window = window }
+    made : (window : Window) (kt : ℤ) → IsWithin thermal_energy kt → LevelSettings
+    made window kt within = record { window = window; kt = kt; kt_in_range = within }
+
+    same : (v w : Window) (a b : ℤ) → v ≡ w → a ≡ b → (x : IsWithin thermal_energy a) (y : IsWithin thermal_energy b) → made v a x ≡ made w b y
+    same v w a b first second =
+        subst (λ (u : Window). (x : IsWithin thermal_energy a) (y : IsWithin thermal_energy b) → made v a x ≡ made u b y) first
+        (subst (λ (e : ℤ). (x : IsWithin thermal_energy a) (y : IsWithin thermal_energy e) → made v a x ≡ made v e y) second
+        (λ x y. ap (made v a) (one_kt_range a x y)))
 
 -- there is one proof that the numbers of a generated layout are in range
 one_generated_range : (number sites : ℕ) (a b : AreGeneratedNumbers number sites) → a ≡ b

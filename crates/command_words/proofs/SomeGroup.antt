@@ -9,7 +9,7 @@ use Rattle.command_words.specs.declared.settings.GeneratedSettings.{GeneratedSet
 use Rattle.command_words.specs.declared.settings.LevelSettings.{LevelSettings}
 use Rattle.command_words.specs.declared.settings.SearchSettings.{SearchSettings}
 use Rattle.command_words.specs.declared.settings.ReportSettings.{ReportSettings}
-use Rattle.command_words.specs.Limits.{AreGeneratedNumbers, AreSearchLimits, generated_sites, generator_number, node_limit, window_width, worker_count}
+use Rattle.command_words.specs.Limits.{AreGeneratedNumbers, AreSearchLimits, generated_sites, generator_number, node_limit, thermal_energy, window_width, worker_count}
 use Rattle.command_words.specs.Options.{IsBase, IsGiven, IsNumber}
 use Rattle.command_words.specs.Settings.{AreGeneratedSettings, AreLevelSettings, AreParams, AreReportSettings, AreSearchSettings}
 use Rattle.command_words.proofs.Decided.{Both, HasSomeOrNone, both, moved}
@@ -136,15 +136,29 @@ module _ (readings : AreReadings) (value : List ℕ → Option (List ℕ)) where
       back : (r : ReportSettings) → AreReportSettings value r → (x : Bool × Bool) × Flags x
       back r are = ((r.json, r.energies), (are.json, are.energies))
 
-  -- the option gives a window, or gives none
-  pub some_levels : HasSomeOrNone (AreLevelSettings value)
-  some_levels = moved (IsNumber window_width (value (codes "window"))) (AreLevelSettings value) to back (some_number readings window_width (value (codes "window")))
-    where
-      to : (width : ℤ) → IsNumber window_width (value (codes "window")) width → (l : LevelSettings) × AreLevelSettings value l
-      to width is = (record { window = record { width = width; is_window = window_in_range (value (codes "window")) width is } }, record { window = is })
+  -- the numbers of the window and of what lists are weighed by
+  abbrev Around : ℤ × ℤ → Type 0
+  Around = Both (IsNumber window_width (value (codes "window"))) (IsNumber thermal_energy (value (codes "kt")))
 
-      back : (l : LevelSettings) → AreLevelSettings value l → (width : ℤ) × IsNumber window_width (value (codes "window")) width
-      back l are = (l.window.width, are.window)
+  -- the options give these, or give none
+  pub some_levels : HasSomeOrNone (AreLevelSettings value)
+  some_levels =
+      moved Around (AreLevelSettings value) to back
+      (both (IsNumber window_width (value (codes "window"))) (IsNumber thermal_energy (value (codes "kt")))
+      (some_number readings window_width (value (codes "window"))) (some_number readings thermal_energy (value (codes "kt"))))
+    where
+      to : (x : ℤ × ℤ) → Around x → (l : LevelSettings) × AreLevelSettings value l
+      to (width, kt) (is_width, is_kt) = (
+        record {
+          window = record { width = width; is_window = window_in_range (value (codes "window")) width is_width };
+          kt = kt;
+          kt_in_range = number_within thermal_energy (value (codes "kt")) kt (omega (arith, ints)) (omega (arith, ints)) is_kt;
+        },
+        record { window = is_width; kt = is_kt },
+      )
+
+      back : (l : LevelSettings) → AreLevelSettings value l → (x : ℤ × ℤ) × Around x
+      back l are = ((l.window.width, l.kt), (are.window, are.kt))
 
   -- the numbers of the options of a generated layout
   abbrev Generated : ℕ × ℕ → Type 0

@@ -6,6 +6,7 @@ use Rattle.clap.proofs.OnLiterals.{clap_on_literals}
 use Rattle.window_model.specs.declared.window.Window.{Window}
 use Rattle.command_words.specs.declared.settings.Settings.{Settings}
 use Rattle.command_words.specs.declared.settings.GeneratedSettings.{GeneratedSettings}
+use Rattle.command_words.specs.declared.settings.LevelSettings.{LevelSettings}
 use Rattle.command_words.specs.declared.settings.SearchSettings.{SearchSettings}
 use Rattle.command_words.specs.declared.settings.Task.TheVariants.{Ground}
 use Rattle.command_words.specs.declared.settings.Form.TheVariants.{Sites}
@@ -96,6 +97,10 @@ preset_search = record {
 abbrev pub no_window : Window
 no_window = record { width = pos 0; is_window = record { least = omega (arith, ints); greatest = omega (arith, ints) } }
 
+-- a window of 0 V, and lists weighed by 25 mV
+abbrev pub preset_levels : LevelSettings
+preset_levels = record { window = no_window; kt = pos 25000000000; kt_in_range = record { from = omega (arith, ints); to = omega (arith, ints) } }
+
 -- 40 sites by the number 0
 abbrev pub preset_generated : GeneratedSettings
 preset_generated = record {
@@ -115,7 +120,7 @@ preset = record {
   params = preset_params;
   search = preset_search;
   report = record { json = false; energies = false };
-  levels = record { window = no_window };
+  levels = preset_levels;
   generated = preset_generated;
 }
 
@@ -127,7 +132,7 @@ preset_settings = record {
   params = record { coulomb = refl; eps = refl; lam = refl; depth = refl; gap = refl; base = refl };
   search = record { limit = refl; workers = refl };
   report = record { json = (λ given. absurd (cc), λ e. absurd (cc)); energies = (λ given. absurd (cc), λ e. absurd (cc)) };
-  levels = record { window = refl };
+  levels = record { window = refl; kt = refl };
   generated = record { number = refl; sites = refl };
 }
 

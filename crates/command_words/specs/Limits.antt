@@ -15,6 +15,15 @@ worker_count = record { places = 0; least = pos 1; greatest = pos 16; preset = p
 abbrev pub window_width : Quantity
 window_width = record { places = 12; least = pos 0; greatest = pos 2000000000000; preset = pos 0 }
 
+-- Boltzmann's constant times the temperature, in 10^-12 V: from 1 mV to 1 V, else 25 mV
+abbrev pub thermal_energy : Quantity
+thermal_energy = record {
+  places = 12;
+  least = pos 1000000000;
+  greatest = pos 1000000000000;
+  preset = pos 25000000000;
+}
+
 -- the number that the generator begins with: from 0 to 2^63 - 1, else 0
 abbrev pub generator_number : Quantity
 generator_number = record {

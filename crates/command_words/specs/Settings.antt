@@ -4,7 +4,7 @@ use Rattle.clap.specs.Walk.{Text}
 use Rattle.model_params.specs.declared.params.Params.{Params}
 use Rattle.model_params.specs.Quantities.{coulomb_number, level_depth, level_gap, permittivity, screening_length}
 use Rattle.command_words.specs.declared.settings.Task.{Task}
-use Rattle.command_words.specs.declared.settings.Task.TheVariants.{Ground, Potentials, Certify, Check, Window, Gen}
+use Rattle.command_words.specs.declared.settings.Task.TheVariants.{Ground, Potentials, Certify, Check, Window, Occupation, Gen}
 use Rattle.command_words.specs.declared.settings.Form.{Form}
 use Rattle.command_words.specs.declared.settings.Form.TheVariants.{Sites, Sqd, Table}
 use Rattle.command_words.specs.declared.settings.SearchSettings.{SearchSettings}
@@ -14,7 +14,7 @@ use Rattle.command_words.specs.declared.settings.ReportSettings.{ReportSettings}
 use Rattle.command_words.specs.declared.settings.Settings.{Settings}
 use Rattle.command_words.specs.Command.{refusals_of, value_of}
 use Rattle.command_words.specs.Options.{IsBase, IsChoice, IsGiven, IsNumber}
-use Rattle.command_words.specs.Limits.{generated_sites, generator_number, node_limit, window_width, worker_count}
+use Rattle.command_words.specs.Limits.{generated_sites, generator_number, node_limit, thermal_energy, window_width, worker_count}
 
 -- the names of the tasks
 abbrev pub task_name : Task → Text
@@ -23,6 +23,7 @@ task_name Potentials = codes "potentials"
 task_name Certify = codes "certify"
 task_name Check = codes "check"
 task_name Window = codes "window"
+task_name Occupation = codes "occupation"
 task_name Gen = codes "gen"
 
 -- the names of the forms
@@ -45,9 +46,10 @@ pub record AreSearchSettings (value : Text → Option Text) (s : SearchSettings)
   pub limit : IsNumber node_limit (value (codes "limit")) (pos s.limit)
   pub workers : IsNumber worker_count (value (codes "workers")) (pos s.workers)
 
--- how far lists are looked for is these values of the options
+-- the window, and what lists are weighed by, are these values of their options
 pub record AreLevelSettings (value : Text → Option Text) (l : LevelSettings) : Type 0 where
   pub window : IsNumber window_width (value (codes "window")) l.window.width
+  pub kt : IsNumber thermal_energy (value (codes "kt")) l.kt
 
 -- the numbers of a generated layout are these values of their options
 pub record AreGeneratedSettings (value : Text → Option Text) (g : GeneratedSettings) : Type 0 where

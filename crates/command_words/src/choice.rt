@@ -19,6 +19,7 @@ pub fn task_in(given: Option<&str>) -> Option<Task>
         Some("certify") => Some(Task::Certify),
         Some("check") => Some(Task::Check),
         Some("window") => Some(Task::Window),
+        Some("occupation") => Some(Task::Occupation),
         Some("gen") => Some(Task::Gen),
         Some(_) => None,
     }

@@ -9,7 +9,7 @@ ghost use Rattle.command_words.specs.Settings.{AreGeneratedSettings, AreLevelSet
 
 use crate::choice::{base_in, is_given};
 use crate::number::{
-    GENERATED_SITES, GENERATOR_NUMBER, NODE_LIMIT, WINDOW_WIDTH, WORKER_COUNT, count_in, number_in,
+    GENERATED_SITES, GENERATOR_NUMBER, NODE_LIMIT, THERMAL_ENERGY, WINDOW_WIDTH, WORKER_COUNT, count_in, number_in,
 };
 use crate::{GeneratedSettings, LevelSettings, Params, ReportSettings, SearchSettings};
 use clap::ArgMatches;
@@ -44,7 +44,7 @@ pub fn search_in(matches: &ArgMatches<'_>) -> Option<SearchSettings>
     })
 }
 
-/// How far around the ground lists are looked for.
+/// How far around the ground lists are looked for, and how they are weighed.
 pub fn levels_in(matches: &ArgMatches<'_>) -> Option<LevelSettings>
     ensures found { IfSome result (AreLevelSettings (first_value (found_of matches.now))) }
     ensures none { IfNone result ((l : LevelSettings)
@@ -53,6 +53,7 @@ pub fn levels_in(matches: &ArgMatches<'_>) -> Option<LevelSettings>
     let width = number_in(matches.get_str("window"), &WINDOW_WIDTH)?;
     Some(LevelSettings {
         window: window_of(width),
+        kt: number_in(matches.get_str("kt"), &THERMAL_ENERGY)?,
     })
 }
 

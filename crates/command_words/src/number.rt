@@ -30,6 +30,14 @@ pub const WINDOW_WIDTH: Quantity = Quantity {
     preset: 0,
 };
 
+/// Boltzmann's constant times the temperature, in 10^-12 V.
+pub const THERMAL_ENERGY: Quantity = Quantity {
+    places: 12,
+    least: 1_000_000_000,
+    greatest: 1_000_000_000_000,
+    preset: 25_000_000_000,
+};
+
 /// The number that the generator begins with.
 pub const GENERATOR_NUMBER: Quantity = Quantity {
     places: 0,

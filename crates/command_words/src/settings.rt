@@ -1,4 +1,5 @@
-ghost use Rattle.command_words.specs.Limits.{AreGeneratedNumbers, AreSearchLimits};
+ghost use Rattle.model_params.specs.Quantities.{IsWithin};
+ghost use Rattle.command_words.specs.Limits.{AreGeneratedNumbers, AreSearchLimits, thermal_energy};
 
 use model_params::Params;
 use window_model::Window;
@@ -16,6 +17,8 @@ pub enum Task {
     Check,
     /// Prints the window list of a problem.
     Window,
+    /// Prints the shares of the entries of the window list.
+    Occupation,
     /// Searches a generated layout, and prints what came of it.
     Gen,
 }
@@ -41,11 +44,14 @@ pub struct SearchSettings {
     ghost in_range: { AreSearchLimits limit workers },
 }
 
-/// How far around the ground, and around the levels, lists are looked for.
+/// How far around the ground lists are looked for, and how they are weighed.
 #[derive(Clone, Copy)]
 pub struct LevelSettings {
     /// How far above the ground lists are looked for.
     pub window: Window,
+    /// Boltzmann's constant times the temperature, in 10^-12 V.
+    pub kt: i64,
+    ghost kt_in_range: { IsWithin thermal_energy kt },
 }
 
 /// Which layout is generated.
