@@ -1,6 +1,8 @@
 pub mod ListLemmas
 pub mod Decided
 pub mod Choices
+pub mod Readings
+pub mod DepthLemmas
 pub mod MeaningLemmas
 pub mod SettingLemmas
 pub mod SomeOption

@@ -1,13 +1,14 @@
 -- an option has one meaning, and so have the words
-use Rattle.std.proofs.Common.{◌≡◌, ◌∙◌, sym, ap, subst, refl, inl, inr, ℕ, ℤ, pos, List, Option, None, Some, Bool, true, false, codes, arith, slice_index_or}
+use Rattle.std.proofs.Common.{◌≡◌, ◌∙◌, sym, ap, subst, refl, inl, inr, ℕ, ℤ, pos, Option, None, Some, Bool, true, false, codes, arith, slice_index_or}
 use Rattle.clap.specs.Walk.{Text}
-use Rattle.sidb_units.specs.Decimal.{IsReadAs}
 use Rattle.std.proofs.Props.{props}
 use Rattle.window_model.specs.declared.window.Window.{Window}
 use Rattle.window_model.specs.Windows.{IsWindow}
 use Rattle.model_params.specs.declared.params.Params.{Params}
 use Rattle.model_params.specs.declared.quantity.Quantity.{Quantity}
 use Rattle.model_params.specs.Quantities.{IsWithin, coulomb_number, level_depth, level_gap, permittivity, screening_length}
+use Rattle.command_words.specs.declared.settings.DepthRange.{DepthRange}
+use Rattle.command_words.specs.Depths.{AreDepths}
 use Rattle.command_words.specs.declared.settings.Settings.{Settings}
 use Rattle.command_words.specs.declared.settings.SearchSettings.{SearchSettings}
 use Rattle.command_words.specs.declared.settings.GeneratedSettings.{GeneratedSettings}
@@ -17,12 +18,10 @@ use Rattle.command_words.specs.declared.settings.Task.{Task}
 use Rattle.command_words.specs.declared.settings.Form.{Form}
 use Rattle.command_words.specs.Limits.{AreGeneratedNumbers, AreSearchLimits, generated_sites, generator_number, node_limit, thermal_energy, window_width, worker_count}
 use Rattle.command_words.specs.Options.{IsBase, IsGiven, IsNumber}
-use Rattle.command_words.specs.Settings.{AreGeneratedSettings, AreLevelSettings, AreParams, AreReportSettings, AreSearchSettings, AreSettings}
+use Rattle.command_words.specs.Settings.{AreGeneratedSettings, AreGroups, AreLevelSettings, AreParams, AreReportSettings, AreSearchSettings}
+use Rattle.command_words.proofs.Readings.{IsReadOnce, one_read}
+use Rattle.command_words.proofs.DepthLemmas.{one_depths}
 use Rattle.command_words.proofs.Choices.{one_form, one_task}
-
--- a text is read as one number
-abbrev pub IsReadOnce : Type 0
-IsReadOnce = (text : List ℕ) (places : ℕ) (least greatest v w : ℤ) → IsReadAs text places least greatest v → IsReadAs text places least greatest w → v ≡ w
 
 -- parameters are given by their numbers
 abbrev pub AreGivenByNumbers : Type 0
@@ -112,21 +111,23 @@ one_window v w same = by v.width w.width same v.is_window w.is_window
 one_kt_range : (kt : ℤ) (a b : IsWithin thermal_energy kt) → a ≡ b
 one_kt_range kt = hlevel props
 
--- the window and what lists are weighed by have one meaning
+-- the levels of a search have one meaning
 one_level : IsReadOnce → (value : Text → Option Text) (l m : LevelSettings) → AreLevelSettings value l → AreLevelSettings value m → l ≡ m
 one_level once value l m a b =
-    same l.window m.window l.kt m.kt
+    same l.window m.window l.range m.range l.kt m.kt
     (one_window l.window m.window (one_number once window_width (value (codes "window")) l.window.width m.window.width a.window b.window))
+    (one_read AreDepths (one_depths once) (value (codes "range")) l.range m.range a.range b.range)
     (one_number once thermal_energy (value (codes "kt")) l.kt m.kt a.kt b.kt) l.kt_in_range m.kt_in_range
   where
-    made : (window : Window) (kt : ℤ) → IsWithin thermal_energy kt → LevelSettings
-    made window kt within = record { window = window; kt = kt; kt_in_range = within }
+    made : (window : Window) (range : Option DepthRange) (kt : ℤ) → IsWithin thermal_energy kt → LevelSettings
+    made window range kt within = record { window = window; range = range; kt = kt; kt_in_range = within }
 
-    same : (v w : Window) (a b : ℤ) → v ≡ w → a ≡ b → (x : IsWithin thermal_energy a) (y : IsWithin thermal_energy b) → made v a x ≡ made w b y
-    same v w a b first second =
-        subst (λ (u : Window). (x : IsWithin thermal_energy a) (y : IsWithin thermal_energy b) → made v a x ≡ made u b y) first
-        (subst (λ (e : ℤ). (x : IsWithin thermal_energy a) (y : IsWithin thermal_energy e) → made v a x ≡ made v e y) second
-        (λ x y. ap (made v a) (one_kt_range a x y)))
+    same : (v w : Window) (r s : Option DepthRange) (a b : ℤ) → v ≡ w → r ≡ s → a ≡ b → (x : IsWithin thermal_energy a) (y : IsWithin thermal_energy b) → made v r a x ≡ made w s b y
+    same v w r s a b first second third =
+        subst (λ (u : Window). (x : IsWithin thermal_energy a) (y : IsWithin thermal_energy b) → made v r a x ≡ made u s b y) first
+        (subst (λ (u : Option DepthRange). (x : IsWithin thermal_energy a) (y : IsWithin thermal_energy b) → made v r a x ≡ made v u b y) second
+        (subst (λ (e : ℤ). (x : IsWithin thermal_energy a) (y : IsWithin thermal_energy e) → made v r a x ≡ made v r e y) third
+        (λ x y. ap (made v r a) (one_kt_range a x y))))
 
 -- there is one proof that the numbers of a generated layout are in range
 one_generated_range : (number sites : ℕ) (a b : AreGeneratedNumbers number sites) → a ≡ b
@@ -162,7 +163,7 @@ same_settings : (t u : Task) (f h : Form) (p q : Params) (s r : SearchSettings) 
     → ◌≡◌ {A = Settings} (record { task = t; form = f; params = p; search = s; report = m; levels = l; generated = g }) (record { task = u; form = h; params = q; search = r; report = n; levels = k; generated = i })
 same_settings t u f h p q s r m n l k g i task form params search report levels generated = cc
 
-pub one_settings : IsReadOnce → AreGivenByNumbers → (value : Text → Option Text) (a b : Settings) → AreSettings value a → AreSettings value b → a ≡ b
+pub one_settings : IsReadOnce → AreGivenByNumbers → (value : Text → Option Text) (a b : Settings) → AreGroups value a → AreGroups value b → a ≡ b
 one_settings once given value a b e f =
     same_settings a.task b.task a.form b.form a.params b.params a.search b.search a.report b.report a.levels b.levels a.generated b.generated
     (one_task (value (codes "task")) a.task b.task e.task f.task)

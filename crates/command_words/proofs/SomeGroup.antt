@@ -9,11 +9,15 @@ use Rattle.command_words.specs.declared.settings.GeneratedSettings.{GeneratedSet
 use Rattle.command_words.specs.declared.settings.LevelSettings.{LevelSettings}
 use Rattle.command_words.specs.declared.settings.SearchSettings.{SearchSettings}
 use Rattle.command_words.specs.declared.settings.ReportSettings.{ReportSettings}
+use Rattle.command_words.specs.declared.settings.DepthRange.{DepthRange}
+use Rattle.command_words.specs.Depths.{AreDepths}
 use Rattle.command_words.specs.Limits.{AreGeneratedNumbers, AreSearchLimits, generated_sites, generator_number, node_limit, thermal_energy, window_width, worker_count}
-use Rattle.command_words.specs.Options.{IsBase, IsGiven, IsNumber}
+use Rattle.command_words.specs.Options.{IsBase, IsGiven, IsNumber, IsRead}
 use Rattle.command_words.specs.Settings.{AreGeneratedSettings, AreLevelSettings, AreParams, AreReportSettings, AreSearchSettings}
 use Rattle.command_words.proofs.Decided.{Both, HasSomeOrNone, both, moved}
-use Rattle.command_words.proofs.SomeOption.{AreReadings, base_within, number_within, some_base, some_count, some_flag, some_number}
+use Rattle.command_words.proofs.Readings.{AreReadings, IsReadOnce, some_read}
+use Rattle.command_words.proofs.DepthLemmas.{some_depths}
+use Rattle.command_words.proofs.SomeOption.{base_within, number_within, some_base, some_count, some_flag, some_number}
 
 -- the parameters that these values of options give are in range
 params_in_range : (value : List ℕ → Option (List ℕ)) (coulomb eps lam depth gap : ℤ) (base : ℕ)
@@ -136,29 +140,36 @@ module _ (readings : AreReadings) (value : List ℕ → Option (List ℕ)) where
       back : (r : ReportSettings) → AreReportSettings value r → (x : Bool × Bool) × Flags x
       back r are = ((r.json, r.energies), (are.json, are.energies))
 
-  -- the numbers of the window and of what lists are weighed by
+  -- the window, and what lists are weighed by
   abbrev Around : ℤ × ℤ → Type 0
   Around = Both (IsNumber window_width (value (codes "window"))) (IsNumber thermal_energy (value (codes "kt")))
 
+  -- the range
+  abbrev Ranged : Option DepthRange → Type 0
+  Ranged = IsRead AreDepths (value (codes "range"))
+
   -- the options give these, or give none
-  pub some_levels : HasSomeOrNone (AreLevelSettings value)
-  some_levels =
-      moved Around (AreLevelSettings value) to back
+  pub some_levels : IsReadOnce → HasSomeOrNone (AreLevelSettings value)
+  some_levels once =
+      moved (Both Around Ranged) (AreLevelSettings value) to back
+      (both Around Ranged
       (both (IsNumber window_width (value (codes "window"))) (IsNumber thermal_energy (value (codes "kt")))
       (some_number readings window_width (value (codes "window"))) (some_number readings thermal_energy (value (codes "kt"))))
+      (some_read AreDepths (some_depths readings once) (value (codes "range"))))
     where
-      to : (x : ℤ × ℤ) → Around x → (l : LevelSettings) × AreLevelSettings value l
-      to (width, kt) (is_width, is_kt) = (
+      to : (x : (ℤ × ℤ) × Option DepthRange) → Both Around Ranged x → (l : LevelSettings) × AreLevelSettings value l
+      to ((width, kt), range) ((is_width, is_kt), is_range) = (
         record {
           window = record { width = width; is_window = window_in_range (value (codes "window")) width is_width };
+          range = range;
           kt = kt;
           kt_in_range = number_within thermal_energy (value (codes "kt")) kt (omega (arith, ints)) (omega (arith, ints)) is_kt;
         },
-        record { window = is_width; kt = is_kt },
+        record { window = is_width; range = is_range; kt = is_kt },
       )
 
-      back : (l : LevelSettings) → AreLevelSettings value l → (x : ℤ × ℤ) × Around x
-      back l are = ((l.window.width, l.kt), (are.window, are.kt))
+      back : (l : LevelSettings) → AreLevelSettings value l → (x : (ℤ × ℤ) × Option DepthRange) × Both Around Ranged x
+      back l are = (((l.window.width, l.kt), l.range), ((are.window, are.kt), are.range))
 
   -- the numbers of the options of a generated layout
   abbrev Generated : ℕ × ℕ → Type 0

@@ -11,7 +11,7 @@ use Rattle.command_words.specs.declared.settings.SearchSettings.{SearchSettings}
 use Rattle.command_words.specs.declared.settings.Task.TheVariants.{Ground}
 use Rattle.command_words.specs.declared.settings.Form.TheVariants.{Sites}
 use Rattle.command_words.specs.Command.{sidb_command, refusals_of, matches_in, value_of}
-use Rattle.command_words.specs.Settings.{AreSettings, IsSettingsOf}
+use Rattle.command_words.specs.Settings.{AreGroups, IsSettingsOf}
 use Rattle.model_params.proofs.StandardFacts.{preset as preset_params}
 
 -- each row is one fact about the definition
@@ -99,7 +99,7 @@ no_window = record { width = pos 0; is_window = record { least = omega (arith, i
 
 -- a window of 0 V, and lists weighed by 25 mV
 abbrev pub preset_levels : LevelSettings
-preset_levels = record { window = no_window; kt = pos 25000000000; kt_in_range = record { from = omega (arith, ints); to = omega (arith, ints) } }
+preset_levels = record { window = no_window; range = None; kt = pos 25000000000; kt_in_range = record { from = omega (arith, ints); to = omega (arith, ints) } }
 
 -- 40 sites by the number 0
 abbrev pub preset_generated : GeneratedSettings
@@ -124,17 +124,17 @@ preset = record {
   generated = preset_generated;
 }
 
-pub preset_settings : AreSettings (value_of []) preset
+pub preset_groups : AreGroups (value_of []) preset
 unfolding clap_on_literals sidb_command matches_in
-preset_settings = record {
+preset_groups = record {
   task = refl;
   form = refl;
   params = record { coulomb = refl; eps = refl; lam = refl; depth = refl; gap = refl; base = refl };
   search = record { limit = refl; workers = refl };
   report = record { json = (λ given. absurd (cc), λ e. absurd (cc)); energies = (λ given. absurd (cc), λ e. absurd (cc)) };
-  levels = record { window = refl; kt = refl };
+  levels = record { window = refl; range = tt; kt = refl };
   generated = record { number = refl; sites = refl };
 }
 
 pub no_words_mean_preset : IsSettingsOf [] preset
-no_words_mean_preset = record { taken = rows.no_words; values = preset_settings }
+no_words_mean_preset = record { taken = rows.no_words; values = record { groups = preset_groups; needs = tt } }

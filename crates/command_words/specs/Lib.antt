@@ -1,4 +1,5 @@
 pub mod Command
 pub mod Options
 pub mod Limits
+pub mod Depths
 pub mod Settings

@@ -1,10 +1,10 @@
 -- what a list of words asks for, group by group
-use Rattle.std.specs.Prelude.{◌≡◌, pos, [], List, Option, codes}
+use Rattle.std.specs.Prelude.{◌≡◌, ◌≢◌, pos, [], List, Option, None, codes, ⊤}
 use Rattle.clap.specs.Walk.{Text}
 use Rattle.model_params.specs.declared.params.Params.{Params}
 use Rattle.model_params.specs.Quantities.{coulomb_number, level_depth, level_gap, permittivity, screening_length}
 use Rattle.command_words.specs.declared.settings.Task.{Task}
-use Rattle.command_words.specs.declared.settings.Task.TheVariants.{Ground, Potentials, Certify, Check, Window, Occupation, Gen}
+use Rattle.command_words.specs.declared.settings.Task.TheVariants.{Ground, Potentials, Certify, Check, Window, Occupation, Range, Gen}
 use Rattle.command_words.specs.declared.settings.Form.{Form}
 use Rattle.command_words.specs.declared.settings.Form.TheVariants.{Sites, Sqd, Table}
 use Rattle.command_words.specs.declared.settings.SearchSettings.{SearchSettings}
@@ -13,7 +13,8 @@ use Rattle.command_words.specs.declared.settings.LevelSettings.{LevelSettings}
 use Rattle.command_words.specs.declared.settings.ReportSettings.{ReportSettings}
 use Rattle.command_words.specs.declared.settings.Settings.{Settings}
 use Rattle.command_words.specs.Command.{refusals_of, value_of}
-use Rattle.command_words.specs.Options.{IsBase, IsChoice, IsGiven, IsNumber}
+use Rattle.command_words.specs.Options.{IsBase, IsChoice, IsGiven, IsNumber, IsRead}
+use Rattle.command_words.specs.Depths.{AreDepths}
 use Rattle.command_words.specs.Limits.{generated_sites, generator_number, node_limit, thermal_energy, window_width, worker_count}
 
 -- the names of the tasks
@@ -24,6 +25,7 @@ task_name Certify = codes "certify"
 task_name Check = codes "check"
 task_name Window = codes "window"
 task_name Occupation = codes "occupation"
+task_name Range = codes "range"
 task_name Gen = codes "gen"
 
 -- the names of the forms
@@ -46,9 +48,10 @@ pub record AreSearchSettings (value : Text → Option Text) (s : SearchSettings)
   pub limit : IsNumber node_limit (value (codes "limit")) (pos s.limit)
   pub workers : IsNumber worker_count (value (codes "workers")) (pos s.workers)
 
--- the window, and what lists are weighed by, are these values of their options
+-- the window, the range, and what lists are weighed by are these values of their options
 pub record AreLevelSettings (value : Text → Option Text) (l : LevelSettings) : Type 0 where
   pub window : IsNumber window_width (value (codes "window")) l.window.width
+  pub range : IsRead AreDepths (value (codes "range")) l.range
   pub kt : IsNumber thermal_energy (value (codes "kt")) l.kt
 
 -- the numbers of a generated layout are these values of their options
@@ -62,7 +65,7 @@ pub record AreReportSettings (value : Text → Option Text) (r : ReportSettings)
   pub energies : IsGiven (value (codes "energies")) r.energies
 
 -- each group of settings is what these values of its options give
-pub record AreSettings (value : Text → Option Text) (s : Settings) : Type 0 where
+pub record AreGroups (value : Text → Option Text) (s : Settings) : Type 0 where
   pub task : IsChoice task_name Ground (value (codes "task")) s.task
   pub form : IsChoice form_name Sites (value (codes "form")) s.form
   pub params : AreParams value s.params
@@ -70,6 +73,16 @@ pub record AreSettings (value : Text → Option Text) (s : Settings) : Type 0 wh
   pub report : AreReportSettings value s.report
   pub levels : AreLevelSettings value s.levels
   pub generated : AreGeneratedSettings value s.generated
+
+-- what a task needs beside its input
+abbrev pub HasNeeds : Task → Settings → Type 0
+HasNeeds Range s = s.levels.range ≢ None
+HasNeeds _ s = ⊤
+
+-- these values of the options give the settings, and the task has what it needs
+pub record AreSettings (value : Text → Option Text) (s : Settings) : Type 0 where
+  pub groups : AreGroups value s
+  pub needs : HasNeeds s.task s
 
 -- the words mean these settings: clap gives matches, and these are their values
 pub record IsSettingsOf (words : List Text) (s : Settings) : Type 0 where

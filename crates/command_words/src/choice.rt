@@ -20,6 +20,7 @@ pub fn task_in(given: Option<&str>) -> Option<Task>
         Some("check") => Some(Task::Check),
         Some("window") => Some(Task::Window),
         Some("occupation") => Some(Task::Occupation),
+        Some("range") => Some(Task::Range),
         Some("gen") => Some(Task::Gen),
         Some(_) => None,
     }

@@ -6,9 +6,9 @@ use clap::{Arg, ArgAction, Command};
 use std::alloc::{AllocError, Global};
 
 /// The names of the options, each of which takes one text.
-const OPTION_NAMES: [&str; 14] = [
+const OPTION_NAMES: [&str; 15] = [
     "task", "form", "eps", "lambda", "depth", "gap", "coulomb", "base", "limit", "workers",
-    "window", "kt", "number", "sites",
+    "window", "range", "kt", "number", "sites",
 ];
 
 /// The command with one more option of this name.

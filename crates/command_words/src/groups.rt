@@ -8,8 +8,10 @@ ghost use Rattle.command_words.specs.declared.settings.SearchSettings.{SearchSet
 ghost use Rattle.command_words.specs.Settings.{AreGeneratedSettings, AreLevelSettings, AreParams, AreReportSettings, AreSearchSettings};
 
 use crate::choice::{base_in, is_given};
+use crate::depths::range_in;
 use crate::number::{
-    GENERATED_SITES, GENERATOR_NUMBER, NODE_LIMIT, THERMAL_ENERGY, WINDOW_WIDTH, WORKER_COUNT, count_in, number_in,
+    GENERATED_SITES, GENERATOR_NUMBER, NODE_LIMIT, THERMAL_ENERGY, WINDOW_WIDTH, WORKER_COUNT,
+    count_in, number_in,
 };
 use crate::{GeneratedSettings, LevelSettings, Params, ReportSettings, SearchSettings};
 use clap::ArgMatches;
@@ -53,6 +55,7 @@ pub fn levels_in(matches: &ArgMatches<'_>) -> Option<LevelSettings>
     let width = number_in(matches.get_str("window"), &WINDOW_WIDTH)?;
     Some(LevelSettings {
         window: window_of(width),
+        range: range_in(matches.get_str("range"))?,
         kt: number_in(matches.get_str("kt"), &THERMAL_ENERGY)?,
     })
 }

@@ -20,4 +20,5 @@ pub fn some_meaning()
         ⊎ ((s : Settings) → IsSettingsOf words s → ⊥) }
 {
     one_reading();
+    one_params();
 }

@@ -3,6 +3,7 @@
 
 mod choice;
 mod command;
+mod depths;
 mod groups;
 pub mod laws;
 mod number;
@@ -11,6 +12,7 @@ mod words;
 
 pub use model_params::Params;
 pub use settings::{
-    Form, GeneratedSettings, LevelSettings, ReportSettings, SearchSettings, Settings, Task,
+    DepthRange, Form, GeneratedSettings, LevelSettings, ReportSettings, SearchSettings, Settings,
+    Task,
 };
 pub use words::read_words;

@@ -1,5 +1,5 @@
 ghost use Rattle.model_params.specs.Quantities.{IsWithin};
-ghost use Rattle.command_words.specs.Limits.{AreGeneratedNumbers, AreSearchLimits, thermal_energy};
+ghost use Rattle.command_words.specs.Limits.{AreEndsOfDepths, AreGeneratedNumbers, AreSearchLimits, thermal_energy};
 
 use model_params::Params;
 use window_model::Window;
@@ -19,6 +19,8 @@ pub enum Task {
     Window,
     /// Prints the shares of the entries of the window list.
     Occupation,
+    /// Prints the ground lists at all levels of a range.
+    Range,
     /// Searches a generated layout, and prints what came of it.
     Gen,
 }
@@ -44,11 +46,23 @@ pub struct SearchSettings {
     ghost in_range: { AreSearchLimits limit workers },
 }
 
+/// How far below 0 the upper level may lie.
+#[derive(Clone, Copy)]
+pub struct DepthRange {
+    /// The least depth, in 10^-12 V.
+    pub from: i64,
+    /// The greatest depth, in 10^-12 V.
+    pub to: i64,
+    ghost in_range: { AreEndsOfDepths from to },
+}
+
 /// How far around the ground lists are looked for, and how they are weighed.
 #[derive(Clone, Copy)]
 pub struct LevelSettings {
     /// How far above the ground lists are looked for.
     pub window: Window,
+    /// The depths of the upper level that are asked for.
+    pub range: Option<DepthRange>,
     /// Boltzmann's constant times the temperature, in 10^-12 V.
     pub kt: i64,
     ghost kt_in_range: { IsWithin thermal_energy kt },

@@ -1,15 +1,17 @@
-ghost use Rattle.std.specs.Prelude.{◌≡◌, IfOk, IfSome, IfNone, map};
+ghost use Rattle.std.specs.Prelude.{◌≡◌, IfOk, IfSome, IfNone, MatchBool, map};
 ghost use Rattle.clap.specs.Words.{first_value, found_of};
 ghost use Rattle.command_words.specs.declared.settings.Settings.{Settings};
 ghost use Rattle.command_words.specs.Command.{full_words};
-ghost use Rattle.command_words.specs.Settings.{AreSettings, IsSettingsOf};
+ghost use Rattle.command_words.specs.Settings.{AreGroups, AreSettings, HasNeeds, IsSettingsOf};
 
-use crate::Settings;
 use crate::choice::{form_in, task_in};
 use crate::command::simple_command;
 use crate::groups::{generated_in, levels_in, params_in, report_in, search_in};
+use crate::{Settings, Task};
 use clap::ArgMatches;
 use clap::error::ErrorKind;
+use model_params::laws::one_params;
+use sidb_units::laws::one_reading;
 use sidb_units::{Memory, WordList};
 use std::alloc::Global;
 
@@ -31,11 +33,39 @@ pub fn read_words(alloc: Global, words: &WordList) -> Result<Option<Settings>, M
     }
 }
 
-// The settings that the matches have.
+// Whether the task has what it needs.
+fn has_needs(settings: &Settings) -> bool
+    ensures { MatchBool result (HasNeeds settings.now.task settings.now)
+        (HasNeeds settings.now.task settings.now → ⊥) }
+{
+    match settings.task {
+        Task::Range => settings.levels.range.is_some(),
+        _ => true,
+    }
+}
+
+// The settings that the matches have, where the task has what it needs.
 fn settings_in(matches: &ArgMatches<'_>) -> Option<Settings>
     ensures found { IfSome result (AreSettings (first_value (found_of matches.now))) }
     ensures none { IfNone result ((s : Settings)
         → AreSettings (first_value (found_of matches.now)) s → ⊥) }
+{
+    one_reading();
+    one_params();
+    let Some(settings) = groups_in(matches) else {
+        return None;
+    };
+    if !has_needs(&settings) {
+        return None;
+    }
+    Some(settings)
+}
+
+// All groups of settings that the matches have.
+fn groups_in(matches: &ArgMatches<'_>) -> Option<Settings>
+    ensures found { IfSome result (AreGroups (first_value (found_of matches.now))) }
+    ensures none { IfNone result ((s : Settings)
+        → AreGroups (first_value (found_of matches.now)) s → ⊥) }
 {
     Some(Settings {
         task: task_in(matches.get_str("task"))?,
