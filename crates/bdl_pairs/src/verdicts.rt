@@ -4,9 +4,10 @@ ghost use Rattle.charge_model.specs.GroundList.{Entry};
 ghost use Rattle.bdl_pairs.specs.Readings.{AreWithin, IsRight, Reads};
 ghost use Rattle.bdl_pairs.specs.Verdict.{HasValid, IsMarkedValid, IsFailing, IsVerdict};
 
-use crate::{PairOf, read_bit};
+use crate::read_bit;
 use charge_model::{Deciding, Mark};
 use charge_state::Charges;
+use gate_model::PairOf;
 use ground_entries::GroundList;
 
 /// What the ground list of a pattern says of the wanted bit.

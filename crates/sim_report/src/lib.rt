@@ -8,6 +8,7 @@ mod report;
 mod rows;
 
 pub use ground_report::About;
+pub use lists::plain_lines;
 pub use report::ground_text;
 pub use sim_report_json::ground_json;
 

@@ -37,7 +37,7 @@ pub fn list_lines(
 }
 
 /// The lines of the entries.
-fn plain_lines(alloc: Global, list: &GroundList) -> Result<String, Memory>
+pub fn plain_lines(alloc: Global, list: &GroundList) -> Result<String, Memory>
     ensures { IfOk result (λ text. string_bytes text ≡ text_of (map entry_words list.now)) }
 {
     let mut text = String::new(alloc);

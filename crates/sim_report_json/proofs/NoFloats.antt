@@ -49,7 +49,7 @@ energy_no_float (Some s) = simp whole_no_float
 entry_no_float : (energy : Option Span) (e : Entry) → has_float (entry_data energy e) ≡ false
 entry_no_float energy e = optional_no_float (codes "deciding") (mark_data e.mark) _ (mark_no_float e.mark) (optional_no_float (codes "energy") (option_map energy_data energy) _ (energy_no_float energy) refl)
 
-plain_no_float : (es : List Entry) → items_have_float (items_of (map (entry_data None) es)) ≡ false
+pub plain_no_float : (es : List Entry) → items_have_float (items_of (map (entry_data None) es)) ≡ false
 plain_no_float [] = refl
 plain_no_float (e ∷ es) = rw (entry_no_float None e) (plain_no_float es)
 

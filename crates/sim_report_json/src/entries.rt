@@ -38,7 +38,7 @@ pub fn entry_values(
 }
 
 /// The entries without energies.
-fn plain_values(alloc: Global, list: &GroundList) -> Result<Vec<Value>, Memory>
+pub fn plain_values(alloc: Global, list: &GroundList) -> Result<Vec<Value>, Memory>
     ensures { IfOk result (λ values. map view values.items ≡ map (entry_data None) list.now) }
 {
     let mut values = Vec::with_capacity(alloc, list.len())?;

@@ -8,4 +8,5 @@ mod members;
 mod places;
 mod report;
 
+pub use entries::plain_values;
 pub use report::ground_json;

@@ -1,0 +1,4 @@
+pub mod PairLemmas
+pub mod GateLemmas
+pub mod GridLemmas
+pub mod FunctionLemmas

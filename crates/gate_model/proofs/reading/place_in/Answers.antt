@@ -1,0 +1,5 @@
+use Rattle.std.proofs.Common.{pos}
+use Rattle.gate_model.proofs.reading.place_in.Goals as goal
+
+pub returns-in-Err-clause-none : goal.returns-in-Err-clause-none
+returns-in-Err-clause-none c = λ place is. absurd (cc (c.in-Err.ensures.value (pos place) is))
