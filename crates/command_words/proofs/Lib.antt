@@ -3,6 +3,7 @@ pub mod Decided
 pub mod Choices
 pub mod Readings
 pub mod DepthLemmas
+pub mod GateLemmas
 pub mod MeaningLemmas
 pub mod SettingLemmas
 pub mod SomeOption

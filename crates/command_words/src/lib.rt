@@ -4,12 +4,15 @@
 mod choice;
 mod command;
 mod depths;
+mod gate_settings;
+mod gates;
 mod groups;
 pub mod laws;
 mod number;
 mod settings;
 mod words;
 
+pub use gate_settings::GateSettings;
 pub use model_params::Params;
 pub use settings::{
     DepthRange, Form, GeneratedSettings, LevelSettings, ReportSettings, SearchSettings, Settings,
