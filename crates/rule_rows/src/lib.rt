@@ -28,4 +28,6 @@ mod of_prefix_extremes;
 #[cfg(test)]
 mod of_shared_board;
 #[cfg(test)]
+mod of_task_search;
+#[cfg(test)]
 mod problems;

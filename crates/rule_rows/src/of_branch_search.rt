@@ -1,5 +1,6 @@
 ghost use Rattle.std.specs.Prelude.{◌≤◌};
 
+use crate::problems::two_neighbours;
 use branch_search::{Bound, LeafList, LeavesAnswer, RoundAnswer, least_bound, leaves, round};
 use charge_state::Charge;
 use potential_problem::{Levels, Problem, problem_of, span_between};
@@ -96,17 +97,6 @@ fn rounds_find_energies(rt: HostRuntime) -> Result<(), Fail> {
     Ok(())
 }
 
-/// Two neighbours along a row.
-fn two_neighbours(alloc: Global) -> Result<Problem, Memory> {
-    let spans = [span_between(620_124_254_312, 620_124_254_313)];
-    let levels = Levels {
-        base: 3,
-        mu_minus: -320_000_000_000,
-        mu_plus: -910_000_000_000,
-    };
-    problem_of(alloc, 2, &[0], &spans, &levels)
-}
-
 /// Counts the steps of each of two workers.
 #[derive(Drop)]
 struct Counts {
@@ -164,5 +154,35 @@ fn workers_step_on_the_board(rt: HostRuntime) -> Result<(), Fail> {
     let enters = both.enters.load(Ordering::SeqCst);
     assert!(rt; enters == 1 || enters == 2);
     assert_eq!(rt; both.publishes.load(Ordering::SeqCst), enters);
+    Ok(())
+}
+
+/// Whether so many workers find energy 0 of three sites apart and none below, and refuse a limit
+/// that their tree passes.
+fn finds_with<R: Threads + Sync>(
+    rt: &R,
+    alloc: Global,
+    problem: &Problem,
+    workers: u64,
+) -> bool
+    requires { (1 ≤ workers) × (workers ≤ 16) }
+{
+    let at = round(rt, alloc, problem, 0, 100, workers, &NoGate);
+    let below = round(rt, alloc, problem, -1, 100, workers, &NoGate);
+    let found = least_bound(rt, alloc, problem, 100, workers, &NoGate);
+    let refused = least_bound(rt, alloc, problem, 13, workers, &NoGate);
+    let rounds =
+        matches!(at, RoundAnswer::Done(Some(0))) && matches!(below, RoundAnswer::Done(None));
+    rounds && matches!(found, Bound::Found(0)) && matches!(refused, Bound::Budget)
+}
+
+/// One, two and sixteen workers find the same.
+#[test]
+fn workers_change_no_answer(rt: HostRuntime) -> Result<(), Fail> {
+    let alloc = rt.alloc();
+    let problem = three_apart(alloc)?;
+    assert!(rt; finds_with(&rt, alloc, &problem, 1));
+    assert!(rt; finds_with(&rt, alloc, &problem, 2));
+    assert!(rt; finds_with(&rt, alloc, &problem, 16));
     Ok(())
 }

@@ -23,6 +23,17 @@ pub fn neighbours(alloc: Global, base: u64) -> Result<Problem, Memory>
     problem_of(alloc, 3, &[0, 1, 0], &spans, &levels)
 }
 
+/// Two neighbours along a row.
+pub fn two_neighbours(alloc: Global) -> Result<Problem, Memory> {
+    let spans = [span_between(620_124_254_312, 620_124_254_313)];
+    let levels = Levels {
+        base: 3,
+        mu_minus: -320_000_000_000,
+        mu_plus: -910_000_000_000,
+    };
+    problem_of(alloc, 2, &[0], &spans, &levels)
+}
+
 /// Three sites, of which the first and the last have a potential from 50 to 52.
 pub fn apart(alloc: Global) -> Result<Problem, Memory>
     ensures sites { IfOk result (λ p. p.sites ≡ 3) }
