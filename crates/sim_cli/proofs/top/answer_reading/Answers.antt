@@ -17,7 +17,7 @@ returns-in-Ok-clause-write_fault g c =
 
 pub returns-in-Ok-clause-read : goal.returns-in-Ok-clause-read
 returns-in-Ok-clause-read g c =
-    λ words left after. read_whole c.in-Ok.due _ _ _ _ _ c.deliver.ensures _ _ words left c.in-Ok.ensures.end c.in-Ok.ensures.read after
+    λ words left reads after. read_whole c.in-Ok.due _ _ _ _ _ c.deliver.ensures _ _ words left (c.in-Ok.ensures.end reads) c.in-Ok.ensures.read after
 
 pub returns-in-Ok-clause-known : goal.returns-in-Ok-clause-known
 returns-in-Ok-clause-known g c =
