@@ -60,4 +60,4 @@ no_repeated_option s means = let none = means.taken in let some = rows.repeated 
 
 no_other_preset : IsSettingsOf [] (record preset { form = Table }) → ⊥
 unfolding clap_on_literals sidb_command matches_in
-no_other_preset means = absurd (cc (means.values.form))
+no_other_preset means = absurd (cc (means.values.groups.form))

@@ -4,12 +4,16 @@ use Rattle.std.proofs.lemmas.Int.{ints}
 use Rattle.clap.specs.declared.error.kind.ErrorKind.TheVariants as kind
 use Rattle.clap.proofs.OnLiterals.{clap_on_literals}
 use Rattle.window_model.specs.declared.window.Window.{Window}
+use Rattle.gate_model.specs.Logic.{AllDiffer, AreDistinct}
+use Rattle.command_words.specs.declared.gate_settings.GateSettings.{GateSettings}
 use Rattle.command_words.specs.declared.settings.Settings.{Settings}
+use Rattle.command_words.specs.declared.settings.GeneratedSettings.{GeneratedSettings}
+use Rattle.command_words.specs.declared.settings.LevelSettings.{LevelSettings}
 use Rattle.command_words.specs.declared.settings.SearchSettings.{SearchSettings}
 use Rattle.command_words.specs.declared.settings.Task.TheVariants.{Ground}
 use Rattle.command_words.specs.declared.settings.Form.TheVariants.{Sites}
 use Rattle.command_words.specs.Command.{sidb_command, refusals_of, matches_in, value_of}
-use Rattle.command_words.specs.Settings.{AreSettings, IsSettingsOf}
+use Rattle.command_words.specs.Settings.{AreGroups, IsSettingsOf}
 use Rattle.model_params.proofs.StandardFacts.{preset as preset_params}
 
 -- each row is one fact about the definition
@@ -33,7 +37,7 @@ pub record Rows : Type 0 where
   pub after_two_dashes : refusals_of (codes "--" ∷ codes "--eps=5" ∷ []) ≡ kind.UnknownArgument ∷ []
   pub stray : refusals_of (codes "hello" ∷ []) ≡ kind.UnknownArgument ∷ []
   pub abbreviated : refusals_of (codes "--ep" ∷ codes "5" ∷ []) ≡ kind.UnknownArgument ∷ []
-  pub not_built : refusals_of (codes "--grid" ∷ []) ≡ kind.UnknownArgument ∷ []
+  pub longer_name : refusals_of (codes "--grids" ∷ codes "1" ∷ []) ≡ kind.UnknownArgument ∷ []
   pub flag_given : value_of (codes "--json" ∷ []) (codes "json") ≡ Some (codes "true")
   pub flag_left_out : value_of [] (codes "energies") ≡ Some (codes "false")
   pub repeated_flag : refusals_of (codes "--json" ∷ codes "--json" ∷ []) ≡ kind.ArgumentConflict ∷ []
@@ -67,7 +71,7 @@ rows = record {
   after_two_dashes = refl;
   stray = refl;
   abbreviated = refl;
-  not_built = refl;
+  longer_name = refl;
   flag_given = refl;
   flag_left_out = refl;
   repeated_flag = refl;
@@ -95,6 +99,25 @@ preset_search = record {
 abbrev pub no_window : Window
 no_window = record { width = pos 0; is_window = record { least = omega (arith, ints); greatest = omega (arith, ints) } }
 
+-- a window of 0 V, and lists weighed by 25 mV
+abbrev pub preset_levels : LevelSettings
+preset_levels = record { window = no_window; range = None; kt = pos 25000000000; kt_in_range = record { from = omega (arith, ints); to = omega (arith, ints) } }
+
+-- 40 sites by the number 0
+abbrev pub preset_generated : GeneratedSettings
+preset_generated = record {
+  number = 0;
+  sites = 40;
+  in_range = record {
+    number_within = record { from = omega (arith, ints); to = omega (arith, ints) };
+    sites_within = record { from = omega (arith, ints); to = omega (arith, ints) };
+  };
+}
+
+-- no gate and no points
+abbrev pub no_gate : GateSettings
+no_gate = record { inputs = []; outputs = []; function = None; grid = None }
+
 -- no words mean the preset settings
 abbrev pub preset : Settings
 preset = record {
@@ -103,19 +126,28 @@ preset = record {
   params = preset_params;
   search = preset_search;
   report = record { json = false; energies = false };
-  levels = record { window = no_window };
+  levels = preset_levels;
+  gate = no_gate;
+  generated = preset_generated;
 }
 
-pub preset_settings : AreSettings (value_of []) preset
+-- no places are all distinct
+none_differ : AreDistinct [] []
+unfolding AllDiffer
+none_differ i j d before within same = omega (arith, within)
+
+pub preset_groups : AreGroups (value_of []) preset
 unfolding clap_on_literals sidb_command matches_in
-preset_settings = record {
+preset_groups = record {
   task = refl;
   form = refl;
   params = record { coulomb = refl; eps = refl; lam = refl; depth = refl; gap = refl; base = refl };
   search = record { limit = refl; workers = refl };
   report = record { json = (λ given. absurd (cc), λ e. absurd (cc)); energies = (λ given. absurd (cc), λ e. absurd (cc)) };
-  levels = record { window = refl };
+  levels = record { window = refl; range = tt; kt = refl };
+  gate = record { inputs = refl; outputs = refl; function = tt; grid = tt; distinct = none_differ };
+  generated = record { number = refl; sites = refl };
 }
 
 pub no_words_mean_preset : IsSettingsOf [] preset
-no_words_mean_preset = record { taken = rows.no_words; values = preset_settings }
+no_words_mean_preset = record { taken = rows.no_words; values = record { groups = preset_groups; needs = tt } }
