@@ -1,12 +1,12 @@
 //! What holds of every input: it has one meaning, or one fault.
-ghost use Rattle.std.specs.Prelude.{◌≡◌, ◌⊎◌, ℕ, List, Some};
+ghost use Rattle.std.specs.Prelude.{◌≡◌, ◌≢◌, ◌⊎◌, ℕ, List, Some};
 ghost use Rattle.charge_model.specs.Problem.{Problem as ProblemData, IsProblem};
 ghost use Rattle.command_words.specs.declared.settings.Form.{Form};
 ghost use Rattle.command_words.specs.declared.settings.Settings.{Settings};
 ghost use Rattle.fault_lines.specs.declared.input_fault.InputFault.{InputFault};
 ghost use Rattle.fault_lines.specs.FaultLines.{IsNamed};
 ghost use Rattle.ground_report.specs.declared.about.About.{About as AboutData};
-ghost use Rattle.sidb_layout.specs.Layout.{Arrangement};
+ghost use Rattle.sidb_layout.specs.Layout.{Arrangement, IsLayout};
 ghost use Rattle.task_input.specs.Input.{HoldsDistancesBy, IsInput, IsInputFault};
 
 use drawing_laws::laws::each_text_is_drawn;
@@ -61,4 +61,18 @@ pub fn spans_hold_distances()
     ensures { (s : Settings) (bytes : List ℕ) (p : ProblemData) (a : AboutData)
         (layout : Arrangement) → IsInput s bytes p a → a.layout ≡ Some layout
         → HoldsDistancesBy s layout p }
+{}
+
+/// An input that is not a table has a layout.
+pub fn inputs_have_layouts()
+    ensures { (s : Settings) (bytes : List ℕ) (p : ProblemData) (a : AboutData)
+        → IsInput s bytes p a → s.form ≢ Form.Table
+        → (layout : Arrangement) × (a.layout ≡ Some layout) }
+{}
+
+/// What is told of as the layout of an input is one.
+pub fn input_layouts_are_layouts()
+    ensures { (s : Settings) (bytes : List ℕ) (p : ProblemData) (a : AboutData)
+        (layout : Arrangement) → IsInput s bytes p a → a.layout ≡ Some layout
+        → IsLayout layout }
 {}
