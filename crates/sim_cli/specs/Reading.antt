@@ -1,22 +1,29 @@
 -- what was read for a task
-use Rattle.std.specs.Prelude.{◌≡◌, ◌≢◌, ◌⊎◌, ℕ, List, ⊤}
+use Rattle.std.specs.Prelude.{◌≡◌, ◌≢◌, ◌⊎◌, ℕ, List, None, ⊤}
 use Rattle.command_words.specs.declared.settings.Settings.{Settings}
+use Rattle.command_words.specs.declared.settings.Form.TheVariants.{Table}
 use Rattle.fault_lines.specs.declared.input_fault.InputFault.{InputFault}
 use Rattle.fault_lines.specs.declared.input_fault.InputFault.TheVariants.{TooLong}
 use Rattle.task_certificate.specs.CheckAnswer.{IsTextFault}
+use Rattle.task_input.specs.declared.input.Input.{Input}
 use Rattle.task_input.specs.Input.{IsInput, IsInputFault, IsWantOfMemory}
 use Rattle.sim_cli.specs.declared.reading.Reading.{Reading as Read}
 use Rattle.sim_cli.specs.declared.reading.Reading.TheVariants.{Problem, Certificate, Nothing, Refused, ReadFault, Memory}
 use Rattle.sim_cli.specs.declared.kind.InputKind.{InputKind}
 use Rattle.sim_cli.specs.declared.kind.InputKind.TheVariants.{ProblemText, CertificateText, NoText}
-use Rattle.sim_cli.specs.Kind.{kind_of}
+use Rattle.sim_cli.specs.Kind.{kind_of, ReadsInput}
 
--- such a thing is read for a task that reads this
-abbrev pub IsReadFor : InputKind → Read → Type 0
-IsReadFor kind (Problem input) = kind ≡ ProblemText
-IsReadFor kind (Certificate text) = kind ≡ CertificateText
-IsReadFor kind Nothing = kind ≡ NoText
-IsReadFor kind _ = kind ≢ NoText
+-- a problem was read for a task that reads one, with its layout unless it is a table
+pub record IsProblemFor (s : Settings) (input : Input) : Type 0 where
+  pub kind : kind_of s.task ≡ ProblemText
+  pub drawn : s.form ≢ Table → input.about.layout ≢ None
+
+-- such a thing is read for the task of the settings
+abbrev pub IsReadFor : Settings → Read → Type 0
+IsReadFor s (Problem input) = IsProblemFor s input
+IsReadFor s (Certificate text) = kind_of s.task ≡ CertificateText
+IsReadFor s Nothing = kind_of s.task ≡ NoText
+IsReadFor s _ = ReadsInput s.task
 
 -- a task that reads a problem refuses bytes by their fault in the form, one that reads a
 -- certificate here only where there are too many

@@ -21,6 +21,7 @@ pub fn kind_of(task: Task) -> InputKind
 {
     match task {
         Task::Check => InputKind::CertificateText,
+        Task::Gen => InputKind::NoText,
         _ => InputKind::ProblemText,
     }
 }

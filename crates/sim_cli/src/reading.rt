@@ -13,6 +13,7 @@ use run_answer::InputFault;
 use sidb_io::{ReadAllFault, Source, read_all};
 use sidb_units::{MAX_CERTIFICATE_BYTES, MAX_INPUT_BYTES};
 use std::alloc::Global;
+use task_input::laws::inputs_have_layouts;
 use task_input::{Input, read_input};
 
 /// What was read for a task: what its input means, or why there is none.
@@ -35,7 +36,7 @@ pub enum Reading {
 /// Reads what the task reads, and what it means.
 pub fn read_for<S: Source>(alloc: Global, settings: &Settings, source: &mut S) -> Reading
     ensures means { ForBytesLeft (S.left source.old) (IsReadingOf settings.now result) }
-    ensures task { IsReadFor (kind_of settings.now.task) result }
+    ensures task { IsReadFor settings.now result }
     ensures end { IsToTheEnd result → IsAtEnd (S.left source.new) }
     ensures short { ReadsInput settings.now.task → ForBytesLeft (S.left source.old)
         (λ bytes. length bytes ≤ input_limit settings.now.task)
@@ -55,7 +56,7 @@ pub fn read_for<S: Source>(alloc: Global, settings: &Settings, source: &mut S) -
 fn read_whole<S: Source>(alloc: Global, settings: &Settings, source: &mut S) -> Reading
     requires { ReadsInput settings.now.task }
     ensures means { ForBytesLeft (S.left source.old) (IsReadingOf settings.now result) }
-    ensures task { IsReadFor (kind_of settings.now.task) result }
+    ensures task { IsReadFor settings.now result }
     ensures end { IsToTheEnd result → IsAtEnd (S.left source.new) }
     ensures short { ForBytesLeft (S.left source.old)
         (λ bytes. length bytes ≤ input_limit settings.now.task)
@@ -87,9 +88,10 @@ fn input_limit(task: Task) -> usize
 fn reading_of(alloc: Global, settings: &Settings, bytes: Vec<u8>) -> Reading
     requires { ReadsInput settings.now.task }
     ensures means { IsReadingOf settings.now result bytes.items }
-    ensures task { IsReadFor (kind_of settings.now.task) result }
+    ensures task { IsReadFor settings.now result }
     ensures answerable { IsAnswerable result }
 {
+    inputs_have_layouts();
     if kind_of(settings.task) == InputKind::CertificateText {
         return Reading::Certificate(bytes);
     }
