@@ -1,5 +1,5 @@
 -- what the options of a gate give is one thing
-use Rattle.std.proofs.Common.{◌≡◌, ◌∙◌, sym, subst, ℕ, List, [], Option, None, Some, length}
+use Rattle.std.proofs.Common.{◌≡◌, ◌∙◌, sym, subst, ℕ, List, Option, None, Some, length}
 use Rattle.clap.specs.Walk.{Text}
 use Rattle.gate_model.specs.declared.function.Function.{Function}
 use Rattle.gate_model.specs.declared.pairs.PairOf.{PairOf}

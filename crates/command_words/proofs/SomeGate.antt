@@ -1,10 +1,9 @@
 -- what the options of a gate give is something, or nothing
-use Rattle.std.proofs.Common.{◌≡◌, ◌≢◌, refl, subst, ℕ, List, [], ◌⊎◌, inl, inr, Option, None, Some, length}
+use Rattle.std.proofs.Common.{◌≡◌, refl, subst, ℕ, List, [], ◌⊎◌, inl, inr, Option, None, Some, length}
 use Rattle.clap.specs.Walk.{Text}
 use Rattle.gate_model.specs.declared.function.Function.{Function}
 use Rattle.gate_model.specs.declared.pairs.PairOf.{PairOf}
 use Rattle.gate_model.specs.Functions.{IsFunctionNamed}
-use Rattle.gate_model.specs.Grids.{Axes}
 use Rattle.gate_model.specs.GridTexts.{IsGridText}
 use Rattle.gate_model.specs.Logic.{AreDistinct, IsLogic, Logic, logic_of}
 use Rattle.gate_model.specs.Pairs.{ArePairs}

@@ -13,7 +13,7 @@ use Rattle.gate_model.specs.Logic.{AllDiffer, AreDistinct, IsLogic, Logic, logic
 use Rattle.gate_model.specs.Pairs.{ArePairs, IsPair, IsPlace}
 
 -- a text of one digit
-one_digit : (d : ℕ) → 48 ≤ d → d ≤ 57 → IsNumeral (d ∷ []) 1
+pub one_digit : (d : ℕ) → 48 ≤ d → d ≤ 57 → IsNumeral (d ∷ []) 1
 one_digit d from to = record { some = omega arith; within = omega arith; whole = only; rest = inl refl } where
   only : (i : ℕ) → i < 1 → IsDigit (slice_index (d ∷ []) i)
   only zero below = record { from = from; to = to }

@@ -1,8 +1,3 @@
-use Rattle.std.proofs.Common.{sym, subst, Option, List, length, ◌≡◌}
-use Rattle.gate_model.specs.declared.function.Function.{Function}
-use Rattle.gate_model.specs.declared.pairs.PairOf.{PairOf}
-use Rattle.gate_model.specs.Logic.{AreDistinct}
-use Rattle.command_words.specs.Gates.{IsToldFunction}
 use Rattle.command_words.proofs.GateLemmas.{no_function, not_distinct}
 use Rattle.command_words.proofs.gates.gate_of.Goals as goal
 
