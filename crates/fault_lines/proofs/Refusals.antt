@@ -1,10 +1,11 @@
 -- what is no fault of an input, and lines that differ
 use Rattle.std.proofs.Common.{◌≡◌, refl, length, ap, arith}
+use Rattle.std.specs.Fmt.{digits}
 use Rattle.table_reading.specs.declared.fault.TableFault.TheVariants as table
 use Rattle.sqd_layout.specs.declared.fault.SqdFault.TheVariants as layout
 use Rattle.certificate_model.specs.declared.refusal.CertRefusal.TheVariants as refusal
 use Rattle.certificate_reading.specs.declared.fault.CertText.TheVariants as text
-use Rattle.fault_lines.specs.declared.input_fault.InputFault.TheVariants.{Layout, Table, Text}
+use Rattle.fault_lines.specs.declared.input_fault.InputFault.TheVariants.{Layout, Table, Text, GateSite}
 use Rattle.fault_lines.specs.FaultLines.{IsNamed, input_line}
 use Rattle.fault_lines.specs.CertificateLines.{certificate_fault_line}
 
@@ -19,6 +20,10 @@ of_tables_or_layouts is = let differ : 21 ≡ 27 = ap length is in omega (arith,
 
 sites_or_fixed_charges : input_line (Layout layout.TooMany) ≡ input_line (Layout layout.TooManyFixes) → ⊥
 sites_or_fixed_charges is = let differ : 21 ≡ 27 = ap length is in omega (arith, differ)
+
+sites_or_places : input_line (Layout (layout.BadSite 4)) ≡ input_line (GateSite 4) → ⊥
+unfolding digits
+sites_or_places is = let differ : 23 ≡ 24 = ap length is in omega (arith, differ)
 
 no_text_memory : IsNamed (Text text.Memory) → ⊥
 no_text_memory is = is.certificate refl

@@ -8,7 +8,7 @@ use Rattle.certificate_model.specs.declared.refusal.EntryWhy.TheVariants.{NotPos
 use Rattle.certificate_model.specs.declared.refusal.CloseWhy.TheVariants.{PopulationHolds}
 use Rattle.certificate_model.specs.declared.refusal.CertRefusal.TheVariants as refusal
 use Rattle.certificate_reading.specs.declared.fault.CertText.TheVariants as text
-use Rattle.fault_lines.specs.declared.input_fault.InputFault.TheVariants.{TooLong, Layout, Table, Text}
+use Rattle.fault_lines.specs.declared.input_fault.InputFault.TheVariants.{TooLong, Layout, Table, Text, GateSite}
 use Rattle.fault_lines.specs.FaultLines.{IsNamed, input_line, budget_line, words_line, list_too_long_line}
 use Rattle.fault_lines.specs.CertificateLines.{certificate_fault_line}
 
@@ -54,6 +54,10 @@ missing = refl
 missing_near : input_line (Table (table.MissingNear 0 1)) ≡ codes "fault input table missing-near 0 1" ++ 10 ∷ []
 unfolding digits
 missing_near = refl
+
+gate_site : input_line (GateSite 4) ≡ codes "fault input gate-site 4" ++ 10 ∷ []
+unfolding digits
+gate_site = refl
 
 -- a fault that has words
 named : IsNamed (Layout layout.TooMany)

@@ -10,7 +10,7 @@ use Rattle.sqd_layout.specs.declared.fault.SqdFault.TheVariants as layout
 use Rattle.certificate_reading.specs.declared.fault.CertText.{CertText}
 use Rattle.certificate_reading.specs.declared.fault.CertText.TheVariants as text
 use Rattle.fault_lines.specs.declared.input_fault.InputFault.{InputFault}
-use Rattle.fault_lines.specs.declared.input_fault.InputFault.TheVariants.{TooLong, Layout, Table, Text}
+use Rattle.fault_lines.specs.declared.input_fault.InputFault.TheVariants.{TooLong, Layout, Table, Text, GateSite}
 
 -- the word of what is wrong with a line
 abbrev pub why_word : LineWhy → List ℕ
@@ -59,6 +59,7 @@ input_fault_words TooLong = codes "too-long" ∷ []
 input_fault_words (Layout fault) = layout_fault_words fault
 input_fault_words (Table fault) = codes "table" ∷ table_fault_words fault
 input_fault_words (Text fault) = text_fault_words fault
+input_fault_words (GateSite place) = codes "gate-site" ∷ decimal place ∷ []
 
 -- a fault of the input itself, and not that memory ran out
 pub record IsNamed (fault : InputFault) : Type 0 where

@@ -13,4 +13,6 @@ pub enum InputFault {
     Table(TableFault),
     /// The first fault of a certificate text.
     Text(CertText),
+    /// The first place that a gate's pairs name and that is no site of the layout.
+    GateSite(usize),
 }

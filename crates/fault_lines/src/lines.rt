@@ -39,5 +39,6 @@ pub fn input_line(alloc: Global, fault: InputFault) -> Result<String, Memory>
         InputFault::Layout(fault) => layout_line(alloc, fault),
         InputFault::Table(fault) => table_line(alloc, fault),
         InputFault::Text(fault) => text_line(alloc, fault),
+        InputFault::GateSite(place) => Ok(format!(in alloc; "fault input gate-site {place}\n")?),
     }
 }

@@ -8,7 +8,7 @@ use Rattle.charge_model.specs.GroundList.{Entry, IsMarkedGroundList}
 use Rattle.sidb_units.specs.declared.TheConstants.{MAX_CERTIFICATE_BYTES}
 use Rattle.command_words.specs.declared.settings.Settings.{Settings}
 use Rattle.fault_lines.specs.declared.input_fault.InputFault.{InputFault}
-use Rattle.fault_lines.specs.declared.input_fault.InputFault.TheVariants.{TooLong, Layout, Table, Text}
+use Rattle.fault_lines.specs.declared.input_fault.InputFault.TheVariants.{TooLong, Layout, Table, Text, GateSite}
 use Rattle.fault_lines.specs.FaultLines.{IsNamed, input_line}
 use Rattle.fault_lines.specs.CertificateLines.{certificate_fault_line}
 use Rattle.ground_report.specs.declared.about.About.{About}
@@ -52,8 +52,11 @@ module _ (one : PartsAreOne) (s : Settings) (bytes : List ℕ) where
   same_fault TooLong (Table g) a b = absurd b
   same_fault (Text f) (Layout g) a b = absurd b
   same_fault (Text f) (Table g) a b = absurd b
+  same_fault TooLong (GateSite g) a b = absurd b
+  same_fault (Text f) (GateSite g) a b = absurd b
   same_fault (Layout f) g a b = absurd a
   same_fault (Table f) g a b = absurd a
+  same_fault (GateSite f) g a b = absurd a
 
   same_refusal : (a b : Status) (t u : List ℕ) → IsTextRefusal bytes a t → IsTextRefusal bytes b u → (a ≡ b) × (t ≡ u)
   same_refusal a b t u x y =
@@ -66,6 +69,7 @@ module _ (one : PartsAreOne) (s : Settings) (bytes : List ℕ) where
   not_refused p es ts (Text fault) short means f = one.no_fault bytes p es ts fault means f.1
   not_refused p es ts (Layout fault) short means f = f
   not_refused p es ts (Table fault) short means f = f
+  not_refused p es ts (GateSite fault) short means f = f
 
   same_verdict : (p : Problem) (es : List Entry) (ts : List Token) (a b : Status) (t u : List ℕ) → IsVerdict s p es ts a t → IsVerdict s p es ts b u → (a ≡ b) × (t ≡ u)
   same_verdict p es ts a b t u (inl x) (inl y) = (x.1.0 ∙ sym y.1.0, one.report s about_certificate p es t u x.1.1 y.1.1)

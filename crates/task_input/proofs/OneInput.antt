@@ -14,7 +14,7 @@ use Rattle.command_words.specs.declared.settings.Settings.{Settings}
 use Rattle.command_words.specs.declared.settings.Form.{Form}
 use Rattle.command_words.specs.declared.settings.Form.TheVariants.{Sites as SitesForm, Sqd as SqdForm, Table as TableForm}
 use Rattle.fault_lines.specs.declared.input_fault.InputFault.{InputFault}
-use Rattle.fault_lines.specs.declared.input_fault.InputFault.TheVariants.{TooLong, Layout, Table, Text}
+use Rattle.fault_lines.specs.declared.input_fault.InputFault.TheVariants.{TooLong, Layout, Table, Text, GateSite}
 use Rattle.ground_report.specs.declared.about.About.{About}
 use Rattle.task_input.specs.Input.{IsOfLayout, IsInput, IsInputFault, Means, about_layout}
 
@@ -70,6 +70,12 @@ same_fault sites sqd table TableForm bytes (Text f) g a b = absurd a
 same_fault sites sqd table SitesForm bytes f (Text g) a b = absurd b
 same_fault sites sqd table SqdForm bytes f (Text g) a b = absurd b
 same_fault sites sqd table TableForm bytes f (Text g) a b = absurd b
+same_fault sites sqd table SitesForm bytes (GateSite f) g a b = absurd a
+same_fault sites sqd table SqdForm bytes (GateSite f) g a b = absurd a
+same_fault sites sqd table TableForm bytes (GateSite f) g a b = absurd a
+same_fault sites sqd table SitesForm bytes f (GateSite g) a b = absurd b
+same_fault sites sqd table SqdForm bytes f (GateSite g) a b = absurd b
+same_fault sites sqd table TableForm bytes f (GateSite g) a b = absurd b
 
 fault_or_meaning : ((text : List ℕ) (p : Arrangement) (f : SqdFault) → IsSitesText text p → IsSitesFault text f → ⊥)
     → ((text : List ℕ) (p : Arrangement) (skipped : ℕ) (f : SqdFault) → IsSqdText text p skipped → IsSqdFault text f → ⊥)
@@ -85,6 +91,9 @@ fault_or_meaning sites sqd table TableForm params bytes p a (Layout f) short mea
 fault_or_meaning sites sqd table SitesForm params bytes p a (Text f) short means fault = fault
 fault_or_meaning sites sqd table SqdForm params bytes p a (Text f) short means fault = fault
 fault_or_meaning sites sqd table TableForm params bytes p a (Text f) short means fault = fault
+fault_or_meaning sites sqd table SitesForm params bytes p a (GateSite f) short means fault = fault
+fault_or_meaning sites sqd table SqdForm params bytes p a (GateSite f) short means fault = fault
+fault_or_meaning sites sqd table TableForm params bytes p a (GateSite f) short means fault = fault
 
 pub no_fault : ((text : List ℕ) (p : Arrangement) (f : SqdFault) → IsSitesText text p → IsSitesFault text f → ⊥)
     → ((text : List ℕ) (p : Arrangement) (skipped : ℕ) (f : SqdFault) → IsSqdText text p skipped → IsSqdFault text f → ⊥)

@@ -1,0 +1,15 @@
+use Rattle.std.proofs.Common.{arith}
+use Rattle.gate_model.specs.Logic.{pattern_count}
+use Rattle.operational_domain.proofs.SomeAnswer.{PartsAreThere, some_table}
+use Rattle.operational_domain.proofs.laws.each_gate_has_a_table.Goals as goal
+
+pub returns : goal.returns
+returns c =
+    let parts : PartsAreThere = record {
+      stay = c.the_other_sites_stay.ensures;
+      problem = c.each_layout_has_a_problem.ensures;
+      decided = c.one_answer.ensures.decided;
+      list = c.each_problem_has_a_marked_list.ensures;
+      verdict = c.entries_have_a_verdict.ensures;
+    } in
+    λ s valid logic on. some_table parts s valid logic on (pattern_count s.gate) (omega arith)
