@@ -163,3 +163,123 @@ All options are looked at, whatever the task and the form.
   > --task potentials --limit 0
   > --form table --eps 0.5
   > END
+
+Gates
+-----
+
+An input is one pair or two, an output one to four; a pair is two places from 0 to 9999, and no place of all
+pairs stands twice.
+
+  $ refused << END
+  > --input 0
+  > --input 0:1:2
+  > --input 0:1,
+  > --input ,0:1
+  > --input 0:1,2:3,4:5
+  > --input 0:0
+  > --input 0:1,1:2
+  > --input 0:10000
+  > --input 0:+1
+  > --input 0:x
+  > --input=-1:0
+  > --output 0:1,2:3,4:5,6:7,8:9
+  > --output 3:3
+  > --input 0:1 --output 1:2
+  > --input 0:1 --output 2:3,4:0
+  > --input 0:1 --input 0:1
+  > END
+  $ taken << END
+  > --input 0:1
+  > --input 1:0
+  > --input 0:1,2:3
+  > --input 9998:9999
+  > --input 00:0000000000000000000000000000001
+  > --output 0:1
+  > --output 0:1,2:3,4:5,6:7
+  > --input 4:5 --output 0:1,2:3
+  > END
+
+A function is one of so many inputs, and needs them.
+
+  $ refused << END
+  > --function not
+  > --output 0:1 --function not
+  > --input 0:1 --function xor
+  > --input 0:1 --function nand
+  > --input 0:1 --function NOT
+  > --input 0:1,2:3 --function not
+  > --input 0:1,2:3 --function buf
+  > --input 0:1,2:3 --function ,
+  > END
+  $ taken << END
+  > --input 0:1 --function zero
+  > --input 0:1 --function buf
+  > --function not --input 0:1
+  > --input 0:1 --function one
+  > END
+  $ for name in zero and gt a lt b xor or nor xnor notb ge nota le nand one; do
+  >   echo "--input 0:1,2:3 --function $name"; done | taken
+
+A grid has two axes of a start, a step and a count, of which each point is in its range.
+
+  $ refused << END
+  > --grid 5:1:1
+  > --grid 5:1:1,
+  > --grid 5:1:1,5:1:1,5:1:1
+  > --grid 5:1,5:1:1
+  > --grid 5:1:1:1,5:1:1
+  > --grid 5:0:1,5:1:1
+  > --grid 5:0.00001:1,5:1:1
+  > --grid 5:1000.0001:1,5:1:1
+  > --grid 5:1:0,5:1:1
+  > --grid 5:1:65,5:1:1
+  > --grid 5:1:1.0,5:1:1
+  > --grid 0.9:1:1,5:1:1
+  > --grid 99:1:3,5:1:1
+  > --grid 5:1:1,0.0999:1:1
+  > --grid 5:1:1,937.0001:1:64
+  > END
+  $ taken << END
+  > --grid 1:0.0001:1,0.1:1000:1
+  > --grid 37:1:64,937:1:64
+  > --grid 100:1000:1,1000:1000:1
+  > --grid 98:1:3,5.5:0.0001:02
+  > END
+
+The tasks `truth` and `domain` need a gate and a layout, and `domain` a grid.
+
+  $ refused << END
+  > --task truth
+  > --task truth --input 0:1 --output 2:3
+  > --task truth --input 0:1 --function not
+  > --task truth --output 2:3
+  > --task truth --input 0:1 --output 2:3 --function not --form table
+  > --task domain --input 0:1 --output 2:3 --function not
+  > --task domain --grid 5:1:1,5:1:1
+  > --task domain --input 0:1 --output 2:3 --grid 5:1:1,5:1:1
+  > --task domain --input 0:1 --output 2:3 --function not --grid 5:1:1,5:1:1 --form table
+  > END
+
+Generated layouts
+-----------------
+
+A number has 63 bits, and there are at most 64 sites.
+
+  $ refused << END
+  > --number 9223372036854775808
+  > --number 18446744073709551616
+  > --number=-1
+  > --number 1.0
+  > --sites 65
+  > --sites=-1
+  > --sites 64.0
+  > --task gen --sites 65
+  > --task gen --limit 0
+  > END
+  $ taken << END
+  > --number 0
+  > --number 9223372036854775807
+  > --number 000009223372036854775807
+  > --sites 0
+  > --sites 64
+  > END
