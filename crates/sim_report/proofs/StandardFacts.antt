@@ -3,7 +3,7 @@ use Rattle.std.proofs.Common.{◌≡◌, refl, ℕ, ℤ, pos, negsuc, List, [], 
 use Rattle.std.specs.Fmt.{digits}
 use Rattle.std.proofs.Common.{lit≤}
 use Rattle.std.specs.List.{join_with_byte}
-use Rattle.charge_model.specs.declared.charge.Charge.TheVariants.{Neutral}
+use Rattle.charge_model.specs.declared.charge.Charge.TheVariants.{Neg, Neutral}
 use Rattle.charge_model.specs.declared.span.Span.{Span}
 use Rattle.charge_model.specs.declared.mark.Mark.TheVariants.{Certain}
 use Rattle.charge_model.specs.Problem.{Problem}
@@ -14,7 +14,9 @@ use Rattle.sidb_layout.specs.Lattice.{silicon}
 use Rattle.sidb_layout.specs.Layout.{arrangement_of}
 use Rattle.ground_report.specs.declared.about.About.{About}
 use Rattle.entry_lines.specs.EntryLines.{entry_words}
+use Rattle.sidb_units.specs.Decimal.{last_digits}
 use Rattle.sim_report.specs.GroundText.{energy_row, plain_text, titled_text, IsGroundText}
+use Rattle.sim_report.specs.OccupationText.{occupation_text}
 use Rattle.sim_report.specs.WindowText.{window_title_rows}
 
 -- a line and its end
@@ -78,3 +80,21 @@ a_window : titled_text (window_title_rows (pos 2) 1) (record { layout = None; sk
     ≡ line (codes "sidb-window 1") (line (codes "window 2") (line (codes "sites 1") (line (codes "skipped 0") (line (codes "entries 1") (line (codes "0 certain") (line (codes "end") []))))))
 unfolding digits
 a_window = refl
+
+-- four sites with two lists one unit apart, within that unit, at a kT of 1 mV
+abbrev pub first : Entry
+first = record { charges = Neg ∷ Neutral ∷ Neutral ∷ Neg ∷ []; mark = Certain }
+
+abbrev pub second : Entry
+second = record { charges = Neutral ∷ Neg ∷ Neg ∷ Neutral ∷ []; mark = Certain }
+
+two_shares : occupation_text (pos 1) (pos 1000000000) 4 (first ∷ second ∷ []) (record { lo = pos 500000000; hi = pos 500000001 } ∷ record { lo = pos 499999999; hi = pos 500000000 } ∷ [])
+    ≡ line (codes "sidb-occupation 1") (line (codes "window 1") (line (codes "kt 1000000000") (line (codes "sites 4") (line (codes "entries 2") (line (codes "-00- 0.500000000 0.500000001") (line (codes "0--0 0.499999999 0.500000000") (line (codes "end") [])))))))
+unfolding digits last_digits
+two_shares = refl
+
+-- no site: one list, with the whole
+the_whole : occupation_text (pos 0) (pos 25000000000) 0 (record { charges = []; mark = Certain } ∷ []) (record { lo = pos 1000000000; hi = pos 1000000000 } ∷ [])
+    ≡ line (codes "sidb-occupation 1") (line (codes "window 0") (line (codes "kt 25000000000") (line (codes "sites 0") (line (codes "entries 1") (line (codes ". 1.000000000 1.000000000") (line (codes "end") []))))))
+unfolding digits last_digits
+the_whole = refl

@@ -7,3 +7,4 @@ pub use Rattle.sim_report_json.specs.Parts
 pub use Rattle.sim_report_json.specs.GroundJson
 pub mod GroundText
 pub mod WindowText
+pub mod OccupationText

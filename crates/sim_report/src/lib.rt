@@ -6,8 +6,10 @@ mod layout;
 mod lists;
 mod report;
 mod rows;
+mod shares;
 
 pub use ground_report::About;
 pub use lists::plain_lines;
 pub use report::{ground_text, window_text};
+pub use shares::occupation_text;
 pub use sim_report_json::ground_json;
