@@ -2,8 +2,7 @@
 ghost use Rattle.std.specs.Prelude.{◌≡◌, ◌≢◌, None, Some, IfOk};
 ghost use Rattle.command_words.specs.Settings.{HasDomainNeeds, HasTruthNeeds};
 ghost use Rattle.run_answer.specs.Due.{DueIs};
-ghost use Rattle.task_gate.specs.DomainAnswer.{IsDomainAnswer};
-ghost use Rattle.task_gate.specs.TruthAnswer.{IsTruthAnswer};
+ghost use Rattle.task_gate.specs.Answers.{IsDomainAnswer, IsTruthAnswer};
 ghost use Rattle.sim_cli.specs.Answer.{OfLayout};
 
 use command_words::Settings;
