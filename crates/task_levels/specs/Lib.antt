@@ -2,9 +2,13 @@ pub use Rattle.charge_model.specs.GroundList
 pub use Rattle.candidate_marks.specs.Found
 pub use Rattle.command_words.specs.Settings
 pub use Rattle.ground_state.specs.Window
+pub use Rattle.occupation.specs.Intervals
+pub use Rattle.occupation.specs.Shares
 pub use Rattle.run_answer.specs.Status
 pub use Rattle.run_answer.specs.Due
+pub use Rattle.sim_report.specs.OccupationText
 pub use Rattle.sim_report.specs.WindowText
 pub use Rattle.window_model.specs.Windows
 pub mod WindowAnswer
+pub mod OccupationAnswer
 pub mod Told
