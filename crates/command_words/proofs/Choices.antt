@@ -2,7 +2,7 @@
 use Rattle.std.proofs.Common.{◌≡◌, ◌∙◌, sym, ap, refl, ℕ, ◌+◌, ◌*◌, ◌==◌, List, [], ◌∷◌, ◌⊎◌, inl, inr, Option, None, Some, if◌then◌else◌, slice_index_or}
 use Rattle.clap.specs.Walk.{Text}
 use Rattle.command_words.specs.declared.settings.Task.{Task}
-use Rattle.command_words.specs.declared.settings.Task.TheVariants.{Ground, Potentials, Certify, Check, Window}
+use Rattle.command_words.specs.declared.settings.Task.TheVariants.{Ground, Potentials, Certify, Check, Window, Occupation, Range, Gen, Truth, Domain}
 use Rattle.command_words.specs.declared.settings.Form.{Form}
 use Rattle.command_words.specs.declared.settings.Form.TheVariants.{Sites, Sqd, Table}
 use Rattle.command_words.specs.Options.{IsChoice}
@@ -53,7 +53,7 @@ key text = slice_index_or text 0 0 * 1000 + slice_index_or text 1 0
 
 -- all tasks
 abbrev tasks : List Task
-tasks = Ground ∷ Potentials ∷ Certify ∷ Check ∷ Window ∷ []
+tasks = Ground ∷ Potentials ∷ Certify ∷ Check ∷ Window ∷ Occupation ∷ Range ∷ Gen ∷ Truth ∷ Domain ∷ []
 
 each_task : (task : Task) → IsAmong tasks task
 each_task Ground = inl refl
@@ -61,6 +61,11 @@ each_task Potentials = inr (inl refl)
 each_task Certify = inr (inr (inl refl))
 each_task Check = inr (inr (inr (inl refl)))
 each_task Window = inr (inr (inr (inr (inl refl))))
+each_task Occupation = inr (inr (inr (inr (inr (inl refl)))))
+each_task Range = inr (inr (inr (inr (inr (inr (inl refl))))))
+each_task Gen = inr (inr (inr (inr (inr (inr (inr (inl refl)))))))
+each_task Truth = inr (inr (inr (inr (inr (inr (inr (inr (inl refl))))))))
+each_task Domain = inr (inr (inr (inr (inr (inr (inr (inr (inr (inl refl)))))))))
 
 -- the task of which a name begins with these letters
 unfoldable pub task_by : ℕ → Option Task
@@ -75,6 +80,16 @@ task_by k =
     then Some Check
     else if k == 119105
     then Some Window
+    else if k == 111099
+    then Some Occupation
+    else if k == 114097
+    then Some Range
+    else if k == 103101
+    then Some Gen
+    else if k == 116114
+    then Some Truth
+    else if k == 100111
+    then Some Domain
     else None
 
 known_task : (task : Task) → task_by (key (task_name task)) ≡ Some task
@@ -84,6 +99,11 @@ known_task Potentials = refl
 known_task Certify = refl
 known_task Check = refl
 known_task Window = refl
+known_task Occupation = refl
+known_task Range = refl
+known_task Gen = refl
+known_task Truth = refl
+known_task Domain = refl
 
 -- the name of a task begins with letters of one
 pub begins_a_task : (text : Text) (task : Task) → text ≡ task_name task → task_by (key text) ≡ Some task

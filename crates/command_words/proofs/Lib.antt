@@ -1,10 +1,14 @@
 pub mod ListLemmas
 pub mod Decided
 pub mod Choices
+pub mod Readings
+pub mod DepthLemmas
+pub mod GateLemmas
 pub mod MeaningLemmas
 pub mod SettingLemmas
 pub mod SomeOption
 pub mod SomeGroup
+pub mod SomeGate
 pub mod SomeMeaning
 pub mod StandardFacts
 pub mod Refusals

@@ -1,27 +1,29 @@
 -- an option has one meaning, and so have the words
-use Rattle.std.proofs.Common.{◌≡◌, ◌∙◌, sym, ap, subst, refl, inl, inr, ℕ, ℤ, pos, List, Option, None, Some, Bool, true, false, codes, arith, slice_index_or}
+use Rattle.std.proofs.Common.{◌≡◌, ◌∙◌, sym, ap, subst, refl, inl, inr, ℕ, ℤ, pos, Option, None, Some, Bool, true, false, codes, arith, slice_index_or}
 use Rattle.clap.specs.Walk.{Text}
-use Rattle.sidb_units.specs.Decimal.{IsReadAs}
 use Rattle.std.proofs.Props.{props}
 use Rattle.window_model.specs.declared.window.Window.{Window}
 use Rattle.window_model.specs.Windows.{IsWindow}
 use Rattle.model_params.specs.declared.params.Params.{Params}
 use Rattle.model_params.specs.declared.quantity.Quantity.{Quantity}
-use Rattle.model_params.specs.Quantities.{coulomb_number, level_depth, level_gap, permittivity, screening_length}
+use Rattle.model_params.specs.Quantities.{IsWithin, coulomb_number, level_depth, level_gap, permittivity, screening_length}
+use Rattle.command_words.specs.declared.settings.DepthRange.{DepthRange}
+use Rattle.command_words.specs.Depths.{AreDepths}
+use Rattle.command_words.specs.declared.gate_settings.GateSettings.{GateSettings}
 use Rattle.command_words.specs.declared.settings.Settings.{Settings}
 use Rattle.command_words.specs.declared.settings.SearchSettings.{SearchSettings}
+use Rattle.command_words.specs.declared.settings.GeneratedSettings.{GeneratedSettings}
 use Rattle.command_words.specs.declared.settings.LevelSettings.{LevelSettings}
 use Rattle.command_words.specs.declared.settings.ReportSettings.{ReportSettings}
 use Rattle.command_words.specs.declared.settings.Task.{Task}
 use Rattle.command_words.specs.declared.settings.Form.{Form}
-use Rattle.command_words.specs.Limits.{AreSearchLimits, node_limit, window_width, worker_count}
+use Rattle.command_words.specs.Limits.{AreGeneratedNumbers, AreSearchLimits, generated_sites, generator_number, node_limit, thermal_energy, window_width, worker_count}
 use Rattle.command_words.specs.Options.{IsBase, IsGiven, IsNumber}
-use Rattle.command_words.specs.Settings.{AreLevelSettings, AreParams, AreReportSettings, AreSearchSettings, AreSettings}
+use Rattle.command_words.specs.Settings.{AreGeneratedSettings, AreGroups, AreLevelSettings, AreParams, AreReportSettings, AreSearchSettings}
+use Rattle.command_words.proofs.Readings.{IsReadOnce, one_read}
+use Rattle.command_words.proofs.DepthLemmas.{one_depths}
+use Rattle.command_words.proofs.GateLemmas.{AreGatesOnce, one_gate}
 use Rattle.command_words.proofs.Choices.{one_form, one_task}
-
--- a text is read as one number
-abbrev pub IsReadOnce : Type 0
-IsReadOnce = (text : List ℕ) (places : ℕ) (least greatest v w : ℤ) → IsReadAs text places least greatest v → IsReadAs text places least greatest w → v ≡ w
 
 -- parameters are given by their numbers
 abbrev pub AreGivenByNumbers : Type 0
@@ -107,13 +109,49 @@ one_window v w same = by v.width w.width same v.is_window w.is_window
     by : (a b : ℤ) → a ≡ b → (x : IsWindow a) (y : IsWindow b) → made a x ≡ made b y
     by a b same = subst (λ (e : ℤ). (x : IsWindow a) (y : IsWindow e) → made a x ≡ made e y) same (λ x y. ap (made a) (one_width a x y))
 
--- how far lists are looked for has one meaning
+-- there is one proof that a thermal energy is in range
+one_kt_range : (kt : ℤ) (a b : IsWithin thermal_energy kt) → a ≡ b
+one_kt_range kt = hlevel props
+
+-- the levels of a search have one meaning
 one_level : IsReadOnce → (value : Text → Option Text) (l m : LevelSettings) → AreLevelSettings value l → AreLevelSettings value m → l ≡ m
 one_level once value l m a b =
-    ap made (one_window l.window m.window (one_number once window_width (value (codes "window")) l.window.width m.window.width a.window b.window))
+    same l.window m.window l.range m.range l.kt m.kt
+    (one_window l.window m.window (one_number once window_width (value (codes "window")) l.window.width m.window.width a.window b.window))
+    (one_read AreDepths (one_depths once) (value (codes "range")) l.range m.range a.range b.range)
+    (one_number once thermal_energy (value (codes "kt")) l.kt m.kt a.kt b.kt) l.kt_in_range m.kt_in_range
   where
-    made : Window → LevelSettings
-    made window = record { window = window }
+    made : (window : Window) (range : Option DepthRange) (kt : ℤ) → IsWithin thermal_energy kt → LevelSettings
+    made window range kt within = record { window = window; range = range; kt = kt; kt_in_range = within }
+
+    same : (v w : Window) (r s : Option DepthRange) (a b : ℤ) → v ≡ w → r ≡ s → a ≡ b → (x : IsWithin thermal_energy a) (y : IsWithin thermal_energy b) → made v r a x ≡ made w s b y
+    same v w r s a b first second third =
+        subst (λ (u : Window). (x : IsWithin thermal_energy a) (y : IsWithin thermal_energy b) → made v r a x ≡ made u s b y) first
+        (subst (λ (u : Option DepthRange). (x : IsWithin thermal_energy a) (y : IsWithin thermal_energy b) → made v r a x ≡ made v u b y) second
+        (subst (λ (e : ℤ). (x : IsWithin thermal_energy a) (y : IsWithin thermal_energy e) → made v r a x ≡ made v r e y) third
+        (λ x y. ap (made v r a) (one_kt_range a x y))))
+
+-- there is one proof that the numbers of a generated layout are in range
+one_generated_range : (number sites : ℕ) (a b : AreGeneratedNumbers number sites) → a ≡ b
+one_generated_range number sites = hlevel props
+
+-- a generated layout has one meaning
+one_generated : IsReadOnce → (value : Text → Option Text) (g h : GeneratedSettings) → AreGeneratedSettings value g → AreGeneratedSettings value h → g ≡ h
+one_generated once value g h a b =
+    let numbers : pos g.number ≡ pos h.number = one_number once generator_number (value (codes "number")) (pos g.number) (pos h.number) a.number b.number in
+    let counts : pos g.sites ≡ pos h.sites = one_number once generated_sites (value (codes "sites")) (pos g.sites) (pos h.sites) a.sites b.sites in
+    let number : g.number ≡ h.number = cc in
+    let sites : g.sites ≡ h.sites = cc in
+    same g.number h.number g.sites h.sites number sites g.in_range h.in_range
+  where
+    made : (number sites : ℕ) → AreGeneratedNumbers number sites → GeneratedSettings
+    made number sites within = record { number = number; sites = sites; in_range = within }
+
+    same : (a b c d : ℕ) → a ≡ b → c ≡ d → (x : AreGeneratedNumbers a c) (y : AreGeneratedNumbers b d) → made a c x ≡ made b d y
+    same a b c d first second =
+        subst (λ (e : ℕ). (x : AreGeneratedNumbers a c) (y : AreGeneratedNumbers e d) → made a c x ≡ made e d y) first
+        (subst (λ (e : ℕ). (x : AreGeneratedNumbers a c) (y : AreGeneratedNumbers a e) → made a c x ≡ made a e y) second
+        (λ x y. ap (made a c) (one_generated_range a c x y)))
 
 -- the settings of a report have one meaning
 one_report : (value : Text → Option Text) (r t : ReportSettings) → AreReportSettings value r → AreReportSettings value t → r ≡ t
@@ -123,16 +161,19 @@ one_report value r t a b =
     (one_flag (value (codes "energies")) r.energies t.energies a.energies b.energies)
 
 -- settings are given by their groups
-same_settings : (t u : Task) (f h : Form) (p q : Params) (s r : SearchSettings) (m n : ReportSettings) (l k : LevelSettings) → t ≡ u → f ≡ h → p ≡ q → s ≡ r → m ≡ n → l ≡ k
-    → ◌≡◌ {A = Settings} (record { task = t; form = f; params = p; search = s; report = m; levels = l }) (record { task = u; form = h; params = q; search = r; report = n; levels = k })
-same_settings t u f h p q s r m n l k task form params search report levels = cc
+same_settings : (t u : Task) (f h : Form) (p q : Params) (s r : SearchSettings) (m n : ReportSettings) (l k : LevelSettings) (x y : GateSettings) (g i : GeneratedSettings)
+    → t ≡ u → f ≡ h → p ≡ q → s ≡ r → m ≡ n → l ≡ k → x ≡ y → g ≡ i
+    → ◌≡◌ {A = Settings} (record { task = t; form = f; params = p; search = s; report = m; levels = l; gate = x; generated = g }) (record { task = u; form = h; params = q; search = r; report = n; levels = k; gate = y; generated = i })
+same_settings t u f h p q s r m n l k x y g i task form params search report levels gate generated = cc
 
-pub one_settings : IsReadOnce → AreGivenByNumbers → (value : Text → Option Text) (a b : Settings) → AreSettings value a → AreSettings value b → a ≡ b
-one_settings once given value a b e f =
-    same_settings a.task b.task a.form b.form a.params b.params a.search b.search a.report b.report a.levels b.levels
+pub one_settings : IsReadOnce → AreGivenByNumbers → AreGatesOnce → (value : Text → Option Text) (a b : Settings) → AreGroups value a → AreGroups value b → a ≡ b
+one_settings once given gates value a b e f =
+    same_settings a.task b.task a.form b.form a.params b.params a.search b.search a.report b.report a.levels b.levels a.gate b.gate a.generated b.generated
     (one_task (value (codes "task")) a.task b.task e.task f.task)
     (one_form (value (codes "form")) a.form b.form e.form f.form)
     (one_params once given value a.params b.params e.params f.params)
     (one_search once value a.search b.search e.search f.search)
     (one_report value a.report b.report e.report f.report)
     (one_level once value a.levels b.levels e.levels f.levels)
+    (one_gate gates (value (codes "input")) (value (codes "output")) (value (codes "function")) (value (codes "grid")) a.gate b.gate e.gate f.gate)
+    (one_generated once value a.generated b.generated e.generated f.generated)

@@ -5,14 +5,19 @@ use Rattle.model_params.specs.declared.params.Params.{Params}
 use Rattle.model_params.specs.Quantities.{coulomb_number, level_depth, level_gap, permittivity, screening_length}
 use Rattle.model_params.specs.Params.{AreInRange}
 use Rattle.window_model.specs.Windows.{IsWindow}
+use Rattle.command_words.specs.declared.settings.GeneratedSettings.{GeneratedSettings}
 use Rattle.command_words.specs.declared.settings.LevelSettings.{LevelSettings}
 use Rattle.command_words.specs.declared.settings.SearchSettings.{SearchSettings}
 use Rattle.command_words.specs.declared.settings.ReportSettings.{ReportSettings}
-use Rattle.command_words.specs.Limits.{AreSearchLimits, node_limit, window_width, worker_count}
-use Rattle.command_words.specs.Options.{IsBase, IsGiven, IsNumber}
-use Rattle.command_words.specs.Settings.{AreLevelSettings, AreParams, AreReportSettings, AreSearchSettings}
+use Rattle.command_words.specs.declared.settings.DepthRange.{DepthRange}
+use Rattle.command_words.specs.Depths.{AreDepths}
+use Rattle.command_words.specs.Limits.{AreGeneratedNumbers, AreSearchLimits, generated_sites, generator_number, node_limit, thermal_energy, window_width, worker_count}
+use Rattle.command_words.specs.Options.{IsBase, IsGiven, IsNumber, IsRead}
+use Rattle.command_words.specs.Settings.{AreGeneratedSettings, AreLevelSettings, AreParams, AreReportSettings, AreSearchSettings}
 use Rattle.command_words.proofs.Decided.{Both, HasSomeOrNone, both, moved}
-use Rattle.command_words.proofs.SomeOption.{AreReadings, base_within, number_within, some_base, some_count, some_flag, some_number}
+use Rattle.command_words.proofs.Readings.{AreReadings, IsReadOnce, some_read}
+use Rattle.command_words.proofs.DepthLemmas.{some_depths}
+use Rattle.command_words.proofs.SomeOption.{base_within, number_within, some_base, some_count, some_flag, some_number}
 
 -- the parameters that these values of options give are in range
 params_in_range : (value : List ℕ → Option (List ℕ)) (coulomb eps lam depth gap : ℤ) (base : ℕ)
@@ -37,6 +42,14 @@ limits_in_range : (value : List ℕ → Option (List ℕ)) (limit workers : ℕ)
 limits_in_range value limit workers is_limit is_workers = record {
   limit_within = number_within node_limit (value (codes "limit")) (pos limit) (omega (arith, ints)) (omega (arith, ints)) is_limit;
   workers_within = number_within worker_count (value (codes "workers")) (pos workers) (omega (arith, ints)) (omega (arith, ints)) is_workers;
+}
+
+-- the same for a generated layout
+generated_in_range : (value : List ℕ → Option (List ℕ)) (number sites : ℕ) → IsNumber generator_number (value (codes "number")) (pos number) → IsNumber generated_sites (value (codes "sites")) (pos sites)
+    → AreGeneratedNumbers number sites
+generated_in_range value number sites is_number is_sites = record {
+  number_within = number_within generator_number (value (codes "number")) (pos number) (omega (arith, ints)) (omega (arith, ints)) is_number;
+  sites_within = number_within generated_sites (value (codes "sites")) (pos sites) (omega (arith, ints)) (omega (arith, ints)) is_sites;
 }
 
 -- the width of a window is in range
@@ -127,12 +140,53 @@ module _ (readings : AreReadings) (value : List ℕ → Option (List ℕ)) where
       back : (r : ReportSettings) → AreReportSettings value r → (x : Bool × Bool) × Flags x
       back r are = ((r.json, r.energies), (are.json, are.energies))
 
-  -- the option gives a window, or gives none
-  pub some_levels : HasSomeOrNone (AreLevelSettings value)
-  some_levels = moved (IsNumber window_width (value (codes "window"))) (AreLevelSettings value) to back (some_number readings window_width (value (codes "window")))
-    where
-      to : (width : ℤ) → IsNumber window_width (value (codes "window")) width → (l : LevelSettings) × AreLevelSettings value l
-      to width is = (record { window = record { width = width; is_window = window_in_range (value (codes "window")) width is } }, record { window = is })
+  -- the window, and what lists are weighed by
+  abbrev Around : ℤ × ℤ → Type 0
+  Around = Both (IsNumber window_width (value (codes "window"))) (IsNumber thermal_energy (value (codes "kt")))
 
-      back : (l : LevelSettings) → AreLevelSettings value l → (width : ℤ) × IsNumber window_width (value (codes "window")) width
-      back l are = (l.window.width, are.window)
+  -- the range
+  abbrev Ranged : Option DepthRange → Type 0
+  Ranged = IsRead AreDepths (value (codes "range"))
+
+  -- the options give these, or give none
+  pub some_levels : IsReadOnce → HasSomeOrNone (AreLevelSettings value)
+  some_levels once =
+      moved (Both Around Ranged) (AreLevelSettings value) to back
+      (both Around Ranged
+      (both (IsNumber window_width (value (codes "window"))) (IsNumber thermal_energy (value (codes "kt")))
+      (some_number readings window_width (value (codes "window"))) (some_number readings thermal_energy (value (codes "kt"))))
+      (some_read AreDepths (some_depths readings once) (value (codes "range"))))
+    where
+      to : (x : (ℤ × ℤ) × Option DepthRange) → Both Around Ranged x → (l : LevelSettings) × AreLevelSettings value l
+      to ((width, kt), range) ((is_width, is_kt), is_range) = (
+        record {
+          window = record { width = width; is_window = window_in_range (value (codes "window")) width is_width };
+          range = range;
+          kt = kt;
+          kt_in_range = number_within thermal_energy (value (codes "kt")) kt (omega (arith, ints)) (omega (arith, ints)) is_kt;
+        },
+        record { window = is_width; range = is_range; kt = is_kt },
+      )
+
+      back : (l : LevelSettings) → AreLevelSettings value l → (x : (ℤ × ℤ) × Option DepthRange) × Both Around Ranged x
+      back l are = (((l.window.width, l.kt), l.range), ((are.window, are.kt), are.range))
+
+  -- the numbers of the options of a generated layout
+  abbrev Generated : ℕ × ℕ → Type 0
+  Generated = Both (λ n. IsNumber generator_number (value (codes "number")) (pos n)) (λ n. IsNumber generated_sites (value (codes "sites")) (pos n))
+
+  -- the options give a generated layout, or give none
+  pub some_generated : HasSomeOrNone (AreGeneratedSettings value)
+  some_generated =
+      moved Generated (AreGeneratedSettings value) to back
+      (both (λ n. IsNumber generator_number (value (codes "number")) (pos n)) (λ n. IsNumber generated_sites (value (codes "sites")) (pos n))
+      (some_count readings generator_number 0 refl (value (codes "number"))) (some_count readings generated_sites 40 refl (value (codes "sites"))))
+    where
+      to : (x : ℕ × ℕ) → Generated x → (g : GeneratedSettings) × AreGeneratedSettings value g
+      to (number, sites) (is_number, is_sites) = (
+        record { number = number; sites = sites; in_range = generated_in_range value number sites is_number is_sites },
+        record { number = is_number; sites = is_sites },
+      )
+
+      back : (g : GeneratedSettings) → AreGeneratedSettings value g → (x : ℕ × ℕ) × Generated x
+      back g are = ((g.number, g.sites), (are.number, are.sites))

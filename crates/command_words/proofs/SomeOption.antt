@@ -5,12 +5,8 @@ use Rattle.sidb_units.specs.Decimal.{HasFault, IsReadAs, value_of as value_read}
 use Rattle.model_params.specs.declared.quantity.Quantity.{Quantity}
 use Rattle.model_params.specs.Quantities.{IsWithin}
 use Rattle.command_words.specs.Options.{IsBase, IsGiven, IsNumber}
+use Rattle.command_words.proofs.Readings.{AreReadings}
 use Rattle.command_words.proofs.Decided.{HasSomeOrNone, moved, text_decided}
-
--- a text is read as a number, or has a fault, and not both
-pub record AreReadings : Type 0 where
-  pub some : (text : List ℕ) (places : ℕ) (least greatest : ℤ) → ((v : ℤ) × IsReadAs text places least greatest v) ⊎ ((e : DecFault) × HasFault text places least greatest e)
-  pub no_fault : (text : List ℕ) (places : ℕ) (least greatest v : ℤ) (e : DecFault) → IsReadAs text places least greatest v → HasFault text places least greatest e → ⊥
 
 -- the base that a text is, or none
 pub some_base : (told : Option (List ℕ)) → HasSomeOrNone (IsBase told)

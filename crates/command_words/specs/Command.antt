@@ -22,7 +22,8 @@ with_options app names = fold (λ a name. with_rule a (option_rule name)) app na
 abbrev pub option_names : List Text
 option_names = codes "task" ∷ codes "form" ∷ codes "eps" ∷ codes "lambda" ∷ codes "depth"
     ∷ codes "gap" ∷ codes "coulomb" ∷ codes "base" ∷ codes "limit" ∷ codes "workers"
-    ∷ codes "window" ∷ []
+    ∷ codes "window" ∷ codes "range" ∷ codes "kt" ∷ codes "input" ∷ codes "output"
+    ∷ codes "function" ∷ codes "grid" ∷ codes "number" ∷ codes "sites" ∷ []
 
 -- the name of the program
 abbrev pub program_name : Text

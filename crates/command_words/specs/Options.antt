@@ -1,5 +1,5 @@
 -- what the text of one option means
-use Rattle.std.specs.Prelude.{◌≡◌, ◌⊎◌, ℕ, ℤ, ◌↔◌, Option, Some, None, Bool, IsTrue, codes, option_map}
+use Rattle.std.specs.Prelude.{◌≡◌, ◌⊎◌, ℕ, ℤ, ◌↔◌, Option, Some, None, Bool, IsTrue, codes, option_map, ⊤}
 use Rattle.std.specs.Borrow.{Bor}
 use Rattle.clap.specs.Walk.{Text}
 use Rattle.sidb_units.specs.Decimal.{IsReadAs}
@@ -22,6 +22,12 @@ IsBase (Some text) base = ((text ≡ codes "2") × (base ≡ 2)) ⊎ ((text ≡ 
 -- a flag is given where its text is `true`
 abbrev pub IsGiven : Option Text → Bool → Type 0
 IsGiven told given = IsTrue given ↔ (told ≡ Some (codes "true"))
+
+-- a text is read, and without a text there is nothing
+abbrev pub IsRead : {A : Type 0} → (Text → A → Type 0) → Option Text → Option A → Type 0
+IsRead IsIt None None = ⊤
+IsRead IsIt (Some text) (Some a) = IsIt text a
+IsRead IsIt _ _ = ⊥
 
 -- the number that a decimal gives, times 10 ^ places; without a text it is the preset one
 abbrev pub IsNumber : Quantity → Option Text → ℤ → Type 0

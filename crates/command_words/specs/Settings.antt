@@ -1,19 +1,22 @@
 -- what a list of words asks for, group by group
-use Rattle.std.specs.Prelude.{◌≡◌, pos, [], List, Option, codes}
+use Rattle.std.specs.Prelude.{◌≡◌, ◌≢◌, pos, [], List, Option, None, codes, ⊤}
 use Rattle.clap.specs.Walk.{Text}
 use Rattle.model_params.specs.declared.params.Params.{Params}
 use Rattle.model_params.specs.Quantities.{coulomb_number, level_depth, level_gap, permittivity, screening_length}
 use Rattle.command_words.specs.declared.settings.Task.{Task}
-use Rattle.command_words.specs.declared.settings.Task.TheVariants.{Ground, Potentials, Certify, Check, Window}
+use Rattle.command_words.specs.declared.settings.Task.TheVariants.{Ground, Potentials, Certify, Check, Window, Occupation, Range, Gen, Truth, Domain}
 use Rattle.command_words.specs.declared.settings.Form.{Form}
 use Rattle.command_words.specs.declared.settings.Form.TheVariants.{Sites, Sqd, Table}
 use Rattle.command_words.specs.declared.settings.SearchSettings.{SearchSettings}
+use Rattle.command_words.specs.declared.settings.GeneratedSettings.{GeneratedSettings}
 use Rattle.command_words.specs.declared.settings.LevelSettings.{LevelSettings}
 use Rattle.command_words.specs.declared.settings.ReportSettings.{ReportSettings}
 use Rattle.command_words.specs.declared.settings.Settings.{Settings}
 use Rattle.command_words.specs.Command.{refusals_of, value_of}
-use Rattle.command_words.specs.Options.{IsBase, IsChoice, IsGiven, IsNumber}
-use Rattle.command_words.specs.Limits.{node_limit, window_width, worker_count}
+use Rattle.command_words.specs.Options.{IsBase, IsChoice, IsGiven, IsNumber, IsRead}
+use Rattle.command_words.specs.Depths.{AreDepths}
+use Rattle.command_words.specs.Gates.{AreGateSettings, HasGate}
+use Rattle.command_words.specs.Limits.{generated_sites, generator_number, node_limit, thermal_energy, window_width, worker_count}
 
 -- the names of the tasks
 abbrev pub task_name : Task → Text
@@ -22,6 +25,11 @@ task_name Potentials = codes "potentials"
 task_name Certify = codes "certify"
 task_name Check = codes "check"
 task_name Window = codes "window"
+task_name Occupation = codes "occupation"
+task_name Range = codes "range"
+task_name Gen = codes "gen"
+task_name Truth = codes "truth"
+task_name Domain = codes "domain"
 
 -- the names of the forms
 abbrev pub form_name : Form → Text
@@ -43,9 +51,16 @@ pub record AreSearchSettings (value : Text → Option Text) (s : SearchSettings)
   pub limit : IsNumber node_limit (value (codes "limit")) (pos s.limit)
   pub workers : IsNumber worker_count (value (codes "workers")) (pos s.workers)
 
--- how far lists are looked for is these values of the options
+-- the window, the range, and what lists are weighed by are these values of their options
 pub record AreLevelSettings (value : Text → Option Text) (l : LevelSettings) : Type 0 where
   pub window : IsNumber window_width (value (codes "window")) l.window.width
+  pub range : IsRead AreDepths (value (codes "range")) l.range
+  pub kt : IsNumber thermal_energy (value (codes "kt")) l.kt
+
+-- the numbers of a generated layout are these values of their options
+pub record AreGeneratedSettings (value : Text → Option Text) (g : GeneratedSettings) : Type 0 where
+  pub number : IsNumber generator_number (value (codes "number")) (pos g.number)
+  pub sites : IsNumber generated_sites (value (codes "sites")) (pos g.sites)
 
 -- the settings of the report are these values of its flags
 pub record AreReportSettings (value : Text → Option Text) (r : ReportSettings) : Type 0 where
@@ -53,13 +68,37 @@ pub record AreReportSettings (value : Text → Option Text) (r : ReportSettings)
   pub energies : IsGiven (value (codes "energies")) r.energies
 
 -- each group of settings is what these values of its options give
-pub record AreSettings (value : Text → Option Text) (s : Settings) : Type 0 where
+pub record AreGroups (value : Text → Option Text) (s : Settings) : Type 0 where
   pub task : IsChoice task_name Ground (value (codes "task")) s.task
   pub form : IsChoice form_name Sites (value (codes "form")) s.form
   pub params : AreParams value s.params
   pub search : AreSearchSettings value s.search
   pub report : AreReportSettings value s.report
   pub levels : AreLevelSettings value s.levels
+  pub gate : AreGateSettings value s.gate
+  pub generated : AreGeneratedSettings value s.generated
+
+-- the pairs and the function make a gate, and the input is a layout
+pub record HasTruthNeeds (s : Settings) : Type 0 where
+  pub gate : HasGate s.gate
+  pub no_table : s.form ≢ Table
+
+-- the same, and there are points at which the gate is asked for
+pub record HasDomainNeeds (s : Settings) : Type 0 where
+  pub truth : HasTruthNeeds s
+  pub points : s.gate.grid ≢ None
+
+-- what a task needs beside its input
+abbrev pub HasNeeds : Task → Settings → Type 0
+HasNeeds Range s = s.levels.range ≢ None
+HasNeeds Truth s = HasTruthNeeds s
+HasNeeds Domain s = HasDomainNeeds s
+HasNeeds _ s = ⊤
+
+-- these values of the options give the settings, and the task has what it needs
+pub record AreSettings (value : Text → Option Text) (s : Settings) : Type 0 where
+  pub groups : AreGroups value s
+  pub needs : HasNeeds s.task s
 
 -- the words mean these settings: clap gives matches, and these are their values
 pub record IsSettingsOf (words : List Text) (s : Settings) : Type 0 where

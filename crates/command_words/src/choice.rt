@@ -19,6 +19,11 @@ pub fn task_in(given: Option<&str>) -> Option<Task>
         Some("certify") => Some(Task::Certify),
         Some("check") => Some(Task::Check),
         Some("window") => Some(Task::Window),
+        Some("occupation") => Some(Task::Occupation),
+        Some("range") => Some(Task::Range),
+        Some("gen") => Some(Task::Gen),
+        Some("truth") => Some(Task::Truth),
+        Some("domain") => Some(Task::Domain),
         Some(_) => None,
     }
 }

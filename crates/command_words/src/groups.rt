@@ -2,13 +2,18 @@
 ghost use Rattle.std.specs.Prelude.{IfSome, IfNone};
 ghost use Rattle.clap.specs.Words.{first_value, found_of};
 ghost use Rattle.model_params.specs.declared.params.Params.{Params};
+ghost use Rattle.command_words.specs.declared.settings.GeneratedSettings.{GeneratedSettings};
 ghost use Rattle.command_words.specs.declared.settings.LevelSettings.{LevelSettings};
 ghost use Rattle.command_words.specs.declared.settings.SearchSettings.{SearchSettings};
-ghost use Rattle.command_words.specs.Settings.{AreLevelSettings, AreParams, AreReportSettings, AreSearchSettings};
+ghost use Rattle.command_words.specs.Settings.{AreGeneratedSettings, AreLevelSettings, AreParams, AreReportSettings, AreSearchSettings};
 
 use crate::choice::{base_in, is_given};
-use crate::number::{NODE_LIMIT, WINDOW_WIDTH, WORKER_COUNT, count_in, number_in};
-use crate::{LevelSettings, Params, ReportSettings, SearchSettings};
+use crate::depths::range_in;
+use crate::number::{
+    GENERATED_SITES, GENERATOR_NUMBER, NODE_LIMIT, THERMAL_ENERGY, WINDOW_WIDTH, WORKER_COUNT,
+    count_in, number_in,
+};
+use crate::{GeneratedSettings, LevelSettings, Params, ReportSettings, SearchSettings};
 use clap::ArgMatches;
 use model_params::{COULOMB_NUMBER, LEVEL_DEPTH, LEVEL_GAP, PERMITTIVITY, SCREENING_LENGTH};
 use window_model::window_of;
@@ -41,7 +46,7 @@ pub fn search_in(matches: &ArgMatches<'_>) -> Option<SearchSettings>
     })
 }
 
-/// How far around the ground lists are looked for.
+/// How far around the ground lists are looked for, and how they are weighed.
 pub fn levels_in(matches: &ArgMatches<'_>) -> Option<LevelSettings>
     ensures found { IfSome result (AreLevelSettings (first_value (found_of matches.now))) }
     ensures none { IfNone result ((l : LevelSettings)
@@ -50,6 +55,20 @@ pub fn levels_in(matches: &ArgMatches<'_>) -> Option<LevelSettings>
     let width = number_in(matches.get_str("window"), &WINDOW_WIDTH)?;
     Some(LevelSettings {
         window: window_of(width),
+        range: range_in(matches.get_str("range"))?,
+        kt: number_in(matches.get_str("kt"), &THERMAL_ENERGY)?,
+    })
+}
+
+/// Which layout is generated.
+pub fn generated_in(matches: &ArgMatches<'_>) -> Option<GeneratedSettings>
+    ensures found { IfSome result (AreGeneratedSettings (first_value (found_of matches.now))) }
+    ensures none { IfNone result ((g : GeneratedSettings)
+        → AreGeneratedSettings (first_value (found_of matches.now)) g → ⊥) }
+{
+    Some(GeneratedSettings {
+        number: count_in(matches.get_str("number"), &GENERATOR_NUMBER)?,
+        sites: count_in(matches.get_str("sites"), &GENERATED_SITES)?,
     })
 }
 

@@ -3,12 +3,19 @@
 
 mod choice;
 mod command;
+mod depths;
+mod gate_settings;
+mod gates;
 mod groups;
 pub mod laws;
 mod number;
 mod settings;
 mod words;
 
+pub use gate_settings::GateSettings;
 pub use model_params::Params;
-pub use settings::{Form, LevelSettings, ReportSettings, SearchSettings, Settings, Task};
+pub use settings::{
+    DepthRange, Form, GeneratedSettings, LevelSettings, ReportSettings, SearchSettings, Settings,
+    Task,
+};
 pub use words::read_words;

@@ -30,6 +30,30 @@ pub const WINDOW_WIDTH: Quantity = Quantity {
     preset: 0,
 };
 
+/// Boltzmann's constant times the temperature, in 10^-12 V.
+pub const THERMAL_ENERGY: Quantity = Quantity {
+    places: 12,
+    least: 1_000_000_000,
+    greatest: 1_000_000_000_000,
+    preset: 25_000_000_000,
+};
+
+/// The number that the generator begins with.
+pub const GENERATOR_NUMBER: Quantity = Quantity {
+    places: 0,
+    least: 0,
+    greatest: i64::MAX,
+    preset: 0,
+};
+
+/// How many sites a generated layout has.
+pub const GENERATED_SITES: Quantity = Quantity {
+    places: 0,
+    least: 0,
+    greatest: 64,
+    preset: 40,
+};
+
 /// The number that the text gives, or the preset one where there is no text.
 pub fn number_in(given: Option<&str>, quantity: &Quantity) -> Option<i64>
     requires places { quantity.now.places ≤ 12 }

@@ -1,5 +1,7 @@
-ghost use Rattle.command_words.specs.Limits.{AreSearchLimits};
+ghost use Rattle.model_params.specs.Quantities.{IsWithin};
+ghost use Rattle.command_words.specs.Limits.{AreEndsOfDepths, AreGeneratedNumbers, AreSearchLimits, thermal_energy};
 
+use crate::GateSettings;
 use model_params::Params;
 use window_model::Window;
 
@@ -16,6 +18,16 @@ pub enum Task {
     Check,
     /// Prints the window list of a problem.
     Window,
+    /// Prints the shares of the entries of the window list.
+    Occupation,
+    /// Prints the ground lists at all levels of a range.
+    Range,
+    /// Searches a generated layout, and prints what came of it.
+    Gen,
+    /// Prints the ground lists of a gate by its input patterns, and whether it works.
+    Truth,
+    /// Prints whether a gate works, at each point of a grid.
+    Domain,
 }
 
 /// The form of a run's input.
@@ -39,11 +51,36 @@ pub struct SearchSettings {
     ghost in_range: { AreSearchLimits limit workers },
 }
 
-/// How far around the ground, and around the levels, lists are looked for.
+/// How far below 0 the upper level may lie.
+#[derive(Clone, Copy)]
+pub struct DepthRange {
+    /// The least depth, in 10^-12 V.
+    pub from: i64,
+    /// The greatest depth, in 10^-12 V.
+    pub to: i64,
+    ghost in_range: { AreEndsOfDepths from to },
+}
+
+/// How far around the ground lists are looked for, and how they are weighed.
 #[derive(Clone, Copy)]
 pub struct LevelSettings {
     /// How far above the ground lists are looked for.
     pub window: Window,
+    /// The depths of the upper level that are asked for.
+    pub range: Option<DepthRange>,
+    /// Boltzmann's constant times the temperature, in 10^-12 V.
+    pub kt: i64,
+    ghost kt_in_range: { IsWithin thermal_energy kt },
+}
+
+/// Which layout is generated.
+#[derive(Clone, Copy)]
+pub struct GeneratedSettings {
+    /// The number that the generator begins with.
+    pub number: u64,
+    /// How many sites the layout has.
+    pub sites: u64,
+    ghost in_range: { AreGeneratedNumbers number sites },
 }
 
 /// What a report has, and how it is written.
@@ -56,7 +93,7 @@ pub struct ReportSettings {
 }
 
 /// What the words of a run ask for.
-#[derive(Clone, Copy)]
+#[derive(Drop)]
 pub struct Settings {
     pub task: Task,
     pub form: Form,
@@ -64,4 +101,6 @@ pub struct Settings {
     pub search: SearchSettings,
     pub report: ReportSettings,
     pub levels: LevelSettings,
+    pub gate: GateSettings,
+    pub generated: GeneratedSettings,
 }

@@ -1,20 +1,23 @@
-ghost use Rattle.std.specs.Prelude.{◌≡◌, IfOk, IfSome, IfNone, map};
+ghost use Rattle.std.specs.Prelude.{◌≡◌, IfOk, IfSome, IfNone, MatchBool, map};
 ghost use Rattle.clap.specs.Words.{first_value, found_of};
 ghost use Rattle.command_words.specs.declared.settings.Settings.{Settings};
 ghost use Rattle.command_words.specs.Command.{full_words};
-ghost use Rattle.command_words.specs.Settings.{AreSettings, IsSettingsOf};
+ghost use Rattle.command_words.specs.Gates.{AreGateSettings};
+ghost use Rattle.command_words.specs.Settings.{AreGroups, AreSettings, HasDomainNeeds, HasNeeds, HasTruthNeeds, IsSettingsOf};
 
-use crate::Settings;
 use crate::choice::{form_in, task_in};
 use crate::command::simple_command;
-use crate::groups::{levels_in, params_in, report_in, search_in};
+use crate::gates::{gate_in, has_gate};
+use crate::groups::{generated_in, levels_in, params_in, report_in, search_in};
+use crate::laws::one_groups;
+use crate::{Form, GateSettings, Settings, Task};
 use clap::ArgMatches;
 use clap::error::ErrorKind;
 use sidb_units::{Memory, WordList};
 use std::alloc::Global;
 
-/// What the words ask for, or `None` where they are refused: where `clap` gives no matches, or
-/// where a value breaks its grammar or is out of its range.
+/// What the words ask for, or `None` where they are refused: where `clap` gives no matches, where
+/// a value breaks its grammar or is out of its range, or where the task lacks what it needs.
 pub fn read_words(alloc: Global, words: &WordList) -> Result<Option<Settings>, Memory>
     ensures found { IfOk result (λ read. IfSome read (IsSettingsOf words.now)) }
     ensures none { IfOk result (λ read. IfNone read
@@ -23,7 +26,7 @@ pub fn read_words(alloc: Global, words: &WordList) -> Result<Option<Settings>, M
     let texts = full_list(alloc, words)?;
     let command = simple_command(alloc)?;
     match command.try_get_matches_from(texts.as_slice()) {
-        Ok(matches) => Ok(settings_in(&matches)),
+        Ok(matches) => settings_in(alloc, &matches),
         Err(error) => match error.kind() {
             ErrorKind::OutOfMemory => Err(Memory),
             _ => Ok(None),
@@ -31,11 +34,67 @@ pub fn read_words(alloc: Global, words: &WordList) -> Result<Option<Settings>, M
     }
 }
 
-// The settings that the matches have.
-fn settings_in(matches: &ArgMatches<'_>) -> Option<Settings>
-    ensures found { IfSome result (AreSettings (first_value (found_of matches.now))) }
+// Whether the pairs and the function make a gate, and the input is a layout.
+fn has_truth_needs(alloc: Global, settings: &Settings) -> Result<bool, Memory>
+    ensures { IfOk result (λ has. MatchBool has (HasTruthNeeds settings.now)
+        (HasTruthNeeds settings.now → ⊥)) }
+{
+    if settings.form == Form::Table {
+        return Ok(false);
+    }
+    has_gate(alloc, &settings.gate)
+}
+
+// Whether there are points too, at which the gate is asked for.
+fn has_domain_needs(alloc: Global, settings: &Settings) -> Result<bool, Memory>
+    ensures { IfOk result (λ has. MatchBool has (HasDomainNeeds settings.now)
+        (HasDomainNeeds settings.now → ⊥)) }
+{
+    if settings.gate.grid.is_none() {
+        return Ok(false);
+    }
+    has_truth_needs(alloc, settings)
+}
+
+// Whether the task has what it needs.
+fn has_needs(alloc: Global, settings: &Settings) -> Result<bool, Memory>
+    ensures { IfOk result (λ has. MatchBool has (HasNeeds settings.now.task settings.now)
+        (HasNeeds settings.now.task settings.now → ⊥)) }
+{
+    match settings.task {
+        Task::Range => Ok(settings.levels.range.is_some()),
+        Task::Truth => has_truth_needs(alloc, settings),
+        Task::Domain => has_domain_needs(alloc, settings),
+        _ => Ok(true),
+    }
+}
+
+// The settings that the matches have, where the task has what it needs.
+fn settings_in(alloc: Global, matches: &ArgMatches<'_>) -> Result<Option<Settings>, Memory>
+    ensures found { IfOk result (λ read. IfSome read
+        (AreSettings (first_value (found_of matches.now)))) }
+    ensures none { IfOk result (λ read. IfNone read ((s : Settings)
+        → AreSettings (first_value (found_of matches.now)) s → ⊥)) }
+{
+    one_groups();
+    let Some(gate) = gate_in(alloc, matches)? else {
+        return Ok(None);
+    };
+    let Some(settings) = groups_in(matches, gate) else {
+        return Ok(None);
+    };
+    if !has_needs(alloc, &settings)? {
+        return Ok(None);
+    }
+    Ok(Some(settings))
+}
+
+// All groups of settings that the matches have, with this gate.
+fn groups_in(matches: &ArgMatches<'_>, gate: GateSettings) -> Option<Settings>
+    requires { AreGateSettings (first_value (found_of matches.now)) gate }
+    ensures found { IfSome result (AreGroups (first_value (found_of matches.now))) }
     ensures none { IfNone result ((s : Settings)
-        → AreSettings (first_value (found_of matches.now)) s → ⊥) }
+        → AreGroups (first_value (found_of matches.now)) s → ⊥) }
 {
     Some(Settings {
         task: task_in(matches.get_str("task"))?,
@@ -44,6 +103,8 @@ fn settings_in(matches: &ArgMatches<'_>) -> Option<Settings>
         search: search_in(matches)?,
         report: report_in(matches),
         levels: levels_in(matches)?,
+        generated: generated_in(matches)?,
+        gate,
     })
 }
 

@@ -1,7 +1,7 @@
 -- a name stands for one function of so many bits, and the function tells its name
-use Rattle.std.proofs.Common.{◌≡◌, ◌∙◌, sym, ap, refl, subst, ℕ, zero, suc, List, Option, Some, Bool, true, false, arith, slice_get, slice_index_or}
+use Rattle.std.proofs.Common.{◌≡◌, ℕ, zero, suc, List, Some, slice_get}
 use Rattle.gate_model.specs.declared.function.Function.{Function}
-use Rattle.gate_model.specs.Functions.{IsFunctionNamed, name_by, names_of, table_of}
+use Rattle.gate_model.specs.Functions.{name_by, names_of, table_of}
 
 -- the function of so many bits with this number
 abbrev numbered : ℕ → ℕ → Function

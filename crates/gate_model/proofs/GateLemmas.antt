@@ -1,6 +1,5 @@
 -- places of pairs, and lists in which no number stands twice
-use Rattle.std.proofs.Common.{◌≡◌, ◌≢◌, ◌∙◌, sym, ap, refl, ℕ, zero, suc, ◌+◌, ◌<◌, List, [], ◌∷◌, ◌++◌, take, length, get_or, arith, append_assoc}
-use Rattle.std.specs.Prelude.{AllPairs, slice_index}
+use Rattle.std.proofs.Common.{◌≡◌, ◌∙◌, sym, ap, refl, ℕ, ◌+◌, ◌<◌, List, [], ◌∷◌, ◌++◌, take, length, get_or, arith, append_assoc}
 use Rattle.std.proofs.lemmas.List.{take_more, get_or_default}
 use Rattle.gate_model.specs.declared.pairs.PairOf.{PairOf}
 use Rattle.gate_model.specs.Logic.{AllDiffer, StandsBefore, places_in}

@@ -1,5 +1,5 @@
 -- a text is one grid at most
-use Rattle.std.proofs.Common.{◌≡◌, ◌∙◌, sym, ap, refl, subst, ℕ, ℤ, pos, ◌+◌, ◌-◌, ◌*◌, ◌<◌, ◌≤◌, ◌+ℤ◌, ◌*ℤ◌, ◌≤ℤ◌, List, [], ◌∷◌, arith}
+use Rattle.std.proofs.Common.{◌≡◌, ◌∙◌, ap, subst, ℕ, ℤ, pos, List, [], ◌∷◌}
 use Rattle.sidb_units.specs.declared.TheConstants.{MAX_GRID}
 use Rattle.model_params.specs.declared.quantity.Quantity.{Quantity}
 use Rattle.model_params.specs.Quantities.{permittivity, screening_length}

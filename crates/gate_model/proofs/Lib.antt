@@ -2,3 +2,10 @@ pub mod PairLemmas
 pub mod GateLemmas
 pub mod GridLemmas
 pub mod FunctionLemmas
+pub mod Decided
+pub mod NamedFunctions
+pub mod PairTexts
+pub mod GridDecided
+pub mod GateDecided
+pub mod StandardFacts
+pub mod Refusals

@@ -1,5 +1,5 @@
 -- parts of texts, and the pairs that they are
-use Rattle.std.proofs.Common.{◌≡◌, ◌≢◌, ◌∙◌, sym, ap, refl, subst, ℕ, zero, suc, ◌+◌, ◌<◌, ◌≤◌, ℤ, pos, List, [], ◌∷◌, ◌++◌, Bool, Some, eqb, take, length, get_or, arith, map, Option, None, IfSome, Result, Ok, Err, IfOk}
+use Rattle.std.proofs.Common.{◌≡◌, ◌∙◌, sym, ap, refl, subst, ℕ, zero, suc, ◌+◌, ◌<◌, ◌≤◌, ℤ, pos, List, [], ◌∷◌, ◌++◌, Bool, Some, take, length, get_or, arith, map, Option, None, IfSome, Result, Ok, Err, IfOk}
 use Rattle.sidb_units.specs.declared.memory.Memory.{Memory}
 use Rattle.std.specs.Borrow.{Bor}
 use Rattle.std.specs.List.{AllZip, slice_split}

@@ -1,4 +1,4 @@
-use Rattle.std.proofs.Common.{◌≡◌, ◌≢◌, ℕ, ◌<◌, Some, slice_get}
+use Rattle.std.proofs.Common.{◌≢◌, ℕ, ◌<◌, Some, slice_get}
 use Rattle.gate_model.specs.Functions.{names_of}
 use Rattle.gate_model.proofs.function.function_named.Given as goal
 

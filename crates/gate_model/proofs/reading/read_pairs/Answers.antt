@@ -1,4 +1,4 @@
-use Rattle.std.proofs.Common.{◌∙◌, sym, ap, arith, map}
+use Rattle.std.proofs.Common.{◌∙◌, ap, arith, map}
 use Rattle.gate_model.proofs.PairLemmas.{too_many, whole_text}
 use Rattle.gate_model.proofs.reading.read_pairs.Goals as goal
 
