@@ -1,0 +1,10 @@
+pub mod Seen
+pub mod Answering
+pub mod PartsSeen
+pub mod Answer
+pub use Rattle.level_range_laws.specs.Levels
+pub use Rattle.level_range_laws.specs.RangePrefixes
+pub use Rattle.level_range_laws.specs.Answers
+pub use Rattle.level_range_laws.specs.Parts
+pub use Rattle.level_range_laws.specs.Candidates
+pub use Rattle.level_range_laws.specs.Building

@@ -1,0 +1,12 @@
+pub mod LevelFacts
+pub mod Between
+pub mod Agreement
+pub mod Openings
+pub mod Outcomes
+pub mod OneAnswer
+pub mod Counting
+pub mod Building
+pub mod InOne
+pub mod OneList
+pub mod StandardFacts
+mod Refusals

@@ -1,0 +1,10 @@
+pub mod Levels
+pub mod RangePrefixes
+pub mod Answers
+pub mod Parts
+pub mod Candidates
+pub mod Building
+pub use Rattle.charge_model.specs.Problem
+pub use Rattle.charge_model.specs.Rules
+pub use Rattle.charge_model.specs.GroundList
+pub use Rattle.charge_model.specs.Prefixes

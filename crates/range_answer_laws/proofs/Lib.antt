@@ -1,0 +1,3 @@
+pub mod AtLevels
+pub mod Decided
+pub mod Exist

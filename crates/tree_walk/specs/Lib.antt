@@ -1,0 +1,2 @@
+pub mod Visiting
+pub use Rattle.tree_leaves.specs.Subtree
