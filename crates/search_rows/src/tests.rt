@@ -2,10 +2,10 @@ ghost use Rattle.std.specs.Prelude.{◌≤◌};
 ghost use Rattle.sidb_units.specs.declared.TheConstants.{MAX_NODES};
 ghost use Rattle.window_model.specs.Windows.{IsWindow};
 
-use energy_window::{WindowAnswer, solve_window};
+use energy_window::{WindowAnswer, WindowCertificate, check_window, solve_window, walk_window};
 use entry_lines::entry_line;
 use ground_entries::GroundList;
-use ground_state::{SolveAnswer, solve};
+use ground_state::{SolveAnswer, solve, solve_within};
 use plain_search::{plain_solve, plain_window};
 use potential_problem::Problem;
 use potential_table::read_table;
@@ -14,6 +14,7 @@ use sidb_units::{MAX_NODES, Memory};
 use std::alloc::Global;
 use std::test::Fail;
 use std::thread::Threads;
+use token_sinks::{Token, Tokens};
 
 /// Two sites with a wide span: no list is certainly valid.
 const WIDE_PAIR: &str =
@@ -223,5 +224,64 @@ fn windows_reach_their_end(rt: HostRuntime) -> Result<(), Fail> {
     );
     let one = by_search_within(&rt, alloc, &problem, 1)?;
     assert_eq!(rt; one.as_str(), "-00- certain\n0--0 certain\n");
+    Ok(())
+}
+
+/// The tokens of the first pair within a window of 1, worked by hand: branches are closed by sites,
+/// and where the bound is above 11, the one energy and the window, by entry 0.
+const WALK: [Token; 22] = [
+    Token::Node,
+    Token::Node,
+    Token::Site(0),
+    Token::Node,
+    Token::Energy(0),
+    Token::Node,
+    Token::Listed(0),
+    Token::Site(2),
+    Token::Site(2),
+    Token::Site(2),
+    Token::Site(1),
+    Token::Node,
+    Token::Node,
+    Token::Node,
+    Token::Site(2),
+    Token::Listed(1),
+    Token::Site(3),
+    Token::Energy(0),
+    Token::Site(2),
+    Token::Site(0),
+    Token::Site(0),
+    Token::Site(0),
+];
+
+/// Nine of these prefixes are nodes; the checker takes the tokens, and answers the list.
+#[test]
+fn a_window_is_walked_and_checked(rt: HostRuntime) -> Result<(), Fail> {
+    let alloc = rt.alloc();
+    let text = pair_of(alloc, "10 10", "11 11")?;
+    let problem = read_table(alloc, text.as_bytes())?;
+    let SolveAnswer::List(solved) = solve_within(&rt, alloc, &problem, 1, MAX_NODES, 1, &NoGate)
+    else {
+        return Err(Memory)?;
+    };
+    let mut tokens = Tokens::new(alloc)?;
+    let nodes = walk_window(alloc, &problem, solved.bound, 1, &solved.list, &mut tokens);
+    assert_eq!(rt; (nodes, solved.bound), (Ok(9), Some(10)));
+    assert_eq!(rt; tokens.len(), WALK.len());
+    for k in 0..tokens.len() {
+        assert_eq!(rt; Some(tokens.at(k)), WALK.get(k).copied());
+    }
+    let list = solved.list;
+    let certificate = WindowCertificate {
+        problem,
+        window: 1,
+        list,
+        tokens,
+    };
+    let Ok(checked) = check_window(alloc, &certificate) else {
+        return Err(Memory)?;
+    };
+    let lines = lines_of(alloc, &checked)?;
+    assert_eq!(rt; lines.as_str(), "-00- certain\n0--0 certain\n");
     Ok(())
 }
