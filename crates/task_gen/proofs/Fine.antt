@@ -1,9 +1,10 @@
 -- generated sites make a layout
-use Rattle.std.proofs.Common.{◌≡◌, ◌≢◌, ◌∙◌, ap, sym, subst, refl, ℕ, zero, suc, pos, ◌+◌, ◌*◌, ◌%◌, ◌<◌, ◌≤◌, ◌⊎◌, inl, inr, List, [], ◌∷◌, length, arith, Result, Ok, Err, None, Some}
+use Rattle.std.proofs.Common.{◌≡◌, ◌≢◌, ap, subst, refl, ℕ, zero, suc, pos, ◌+◌, ◌*◌, ◌%◌, ◌<◌, ◌≤◌, ◌⊎◌, inl, inr, List, [], length, arith, Result, Err, None, Some}
 use Rattle.std.specs.Prelude.{All, ◌↔◌, slice_index_or, slice_get, IsSomeAnd, unsigned_abs}
 use Rattle.std.proofs.lemmas.List.{append-nil}
 use Rattle.std.proofs.lemmas.List.Elements.{All-nil, All-cons}
 use Rattle.std.proofs.lemmas.Option.{slice_get_within, get_or_from_slice_get}
+use Rattle.charge_model.specs.declared.TheConstants.{MAX_SITES}
 use Rattle.sidb_layout.specs.declared.site.Site.{Site}
 use Rattle.sidb_layout.specs.declared.fault.LayoutFault.{LayoutFault}
 use Rattle.sidb_layout.specs.declared.fault.LayoutFault.TheVariants.{OutOfRange, TooMany, TooManyFixes, Duplicate, TooClose, Memory}
@@ -11,7 +12,7 @@ use Rattle.sidb_layout.specs.Lattice.{silicon}
 use Rattle.sidb_layout.specs.Layout.{Arrangement}
 use Rattle.sidb_layout.specs.Refusal.{IsFirstOutside, IsFirstPair, IsRefusal}
 use Rattle.sidb_layout.specs.Site.{IsInRange, origin}
-use Rattle.task_gen.specs.Generator.{column_after, drawn, generated, next_state, site_by, sites_of, state_after}
+use Rattle.task_gen.specs.Generator.{column_after, drawn, generated, site_by, sites_of, state_after}
 
 -- so many sites
 pub count_of : (count state column : ℕ) → length (generated count state column) ≡ count
@@ -59,7 +60,7 @@ none_outside P xs i all first = by (slice_get xs i) refl first.outside
     by (Some x) e out = out (subst P (get_or_from_slice_get xs i x x e) (all i x (slice_get_within xs i x e)))
 
 -- so they are not refused
-pub not_refused : (number count : ℕ) (fault : LayoutFault) → count ≤ 64 → ((i j : ℕ) → fault ≢ TooClose i j) → IsRefusal silicon (sites_of number count) [] fault → ⊥
+pub not_refused : (number count : ℕ) (fault : LayoutFault) → count ≤ MAX_SITES → ((i j : ℕ) → fault ≢ TooClose i j) → IsRefusal silicon (sites_of number count) [] fault → ⊥
 not_refused number count (OutOfRange i) few apart (inl first) = none_outside IsInRange (sites_of number count) i (in_range count number 0 (omega arith)) first
 not_refused number count (OutOfRange i) few apart (inr (a, at, all, first)) = absurd first.outside
 not_refused number count TooMany few apart refused = omega (arith, refused.1, count_of count number 0)
@@ -73,7 +74,7 @@ not_refused number count (TooClose i j) few apart refused = apart i j refl
 not_refused number count Memory few apart refused = refused
 
 -- the fault is want of memory
-pub is_memory : (number count : ℕ) (sites : List Site) (r : Result Arrangement LayoutFault) (fault : LayoutFault) → count ≤ 64 → sites ≡ sites_of number count → r ≡ Err fault → ((f : LayoutFault) → f ≢ Memory → ((r ≡ Err f) ↔ IsRefusal silicon sites [] f)) → ((i j : ℕ) → r ≢ Err (TooClose i j)) → fault ≡ Memory
+pub is_memory : (number count : ℕ) (sites : List Site) (r : Result Arrangement LayoutFault) (fault : LayoutFault) → count ≤ MAX_SITES → sites ≡ sites_of number count → r ≡ Err fault → ((f : LayoutFault) → f ≢ Memory → ((r ≡ Err f) ↔ IsRefusal silicon sites [] f)) → ((i j : ℕ) → r ≢ Err (TooClose i j)) → fault ≡ Memory
 is_memory number count sites r Memory few same is refused apart = refl
 is_memory number count sites r (OutOfRange i) few same is refused apart = absurd (not_refused number count (OutOfRange i) few (λ i j e. absurd (cc)) (subst (λ l. IsRefusal silicon l [] (OutOfRange i)) same ((refused (OutOfRange i) (λ e. absurd (cc))).0 is)))
 is_memory number count sites r TooMany few same is refused apart = absurd (not_refused number count TooMany few (λ i j e. absurd (cc)) (subst (λ l. IsRefusal silicon l [] TooMany) same ((refused TooMany (λ e. absurd (cc))).0 is)))

@@ -1,8 +1,9 @@
 -- generated sites make a layout
-use Rattle.std.proofs.Common.{◌≡◌, ◌≢◌, sym, subst, ap, ℕ, ◌<◌, ◌≤◌, List, [], ◌++◌, length, arith}
+use Rattle.std.proofs.Common.{◌≡◌, ◌≢◌, sym, subst, ap, ℕ, ◌<◌, ◌≤◌, List, [], length, arith}
 use Rattle.std.specs.Prelude.{All, AllPairs, slice_index_or, unsigned_abs}
 use Rattle.std.proofs.lemmas.List.{append-nil}
 use Rattle.std.proofs.lemmas.List.Elements.{All-nil}
+use Rattle.charge_model.specs.declared.TheConstants.{MAX_SITES}
 use Rattle.sidb_layout.specs.declared.site.Site.{Site}
 use Rattle.sidb_layout.specs.declared.site.Fix.{Fix}
 use Rattle.sidb_layout.specs.declared.lattice.Lattice.{Lattice}
@@ -20,7 +21,7 @@ pub record ArePlaceLaws : Type 0 where
       → AllPairs (λ a b. ¬ IsTooClose v a b) (places_of sites fixes) → (p : Arrangement) × IsMadeOf v sites fixes p
   pub roomy : (a b : Site) → IsInRange a → IsInRange b → a ≢ b → LEAST_SQUARED_DISTANCE ≤ squared_distance silicon a b
 
-module _ (laws : ArePlaceLaws) (number count : ℕ) (few : count ≤ 64) where
+module _ (laws : ArePlaceLaws) (number count : ℕ) (few : count ≤ MAX_SITES) where
   sites_in_range : All IsInRange (sites_of number count)
   sites_in_range = in_range count number 0 (omega (arith, few))
 

@@ -8,7 +8,7 @@ use Rattle.ground_entries.specs.declared.ground_list.Solved.{Solved}
 use Rattle.ground_state.specs.Answer.{IsListedWithin, IsOverBudget, IsSolution, IsTooLongWithin, IsWithinBudget}
 use Rattle.gate_report.specs.GenText.{gen_text}
 use Rattle.run_answer.specs.declared.status.Status.{Status}
-use Rattle.task_gen.specs.declared.request.Settings.{Settings}
+use Rattle.command_words.specs.declared.settings.Settings.{Settings}
 use Rattle.task_gen.specs.GenAnswer.{IsGenAnswer, IsGenProblem, IsGenReport, IsGenUnlisted}
 
 -- each part of an answer is one

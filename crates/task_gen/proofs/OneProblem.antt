@@ -9,7 +9,7 @@ use Rattle.sidb_layout.specs.Layout.{Arrangement}
 use Rattle.sidb_layout.specs.Refusal.{IsMadeOf}
 use Rattle.model_params.specs.declared.params.Params.{Params}
 use Rattle.screened_coulomb.specs.Layouts.{IsProblemOf}
-use Rattle.task_gen.specs.declared.request.Settings.{Settings}
+use Rattle.command_words.specs.declared.settings.Settings.{Settings}
 use Rattle.task_gen.specs.Generator.{sites_of}
 use Rattle.task_gen.specs.GenAnswer.{IsGenProblem}
 

@@ -2,11 +2,10 @@
 use Rattle.std.proofs.Common.{◌≡◌, ap, ℕ, pos, inl, inr, List, [], ◌∷◌, arith}
 use Rattle.std.specs.Prelude.{slice_index_or}
 use Rattle.std.proofs.lemmas.Int.{ints}
-use Rattle.charge_model.specs.Problem.{Problem}
 use Rattle.sidb_layout.specs.declared.site.Site.{Site}
 use Rattle.run_answer.specs.declared.status.Status.TheVariants.{Answered, Budget, Memory}
-use Rattle.task_gen.specs.declared.request.Settings.{Settings}
-use Rattle.task_gen.specs.Request.{AreGeneratedNumbers}
+use Rattle.command_words.specs.declared.settings.Settings.{Settings}
+use Rattle.command_words.specs.Limits.{AreGeneratedNumbers}
 use Rattle.task_gen.specs.Generator.{next_state, sites_of}
 use Rattle.task_gen.specs.GenAnswer.{IsGenAnswer, IsGenOver}
 use Rattle.task_gen.proofs.StandardFacts.{place}

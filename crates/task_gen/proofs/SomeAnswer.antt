@@ -4,6 +4,7 @@ use Rattle.std.proofs.lemmas.Bool.{cases_lt}
 use Rattle.std.proofs.lemmas.Int.{ints}
 use Rattle.std.proofs.lemmas.List.{length-map}
 use Rattle.sidb_units.specs.declared.TheConstants.{MAX_ENTRIES}
+use Rattle.charge_model.specs.declared.TheConstants.{MAX_SITES}
 use Rattle.charge_model.specs.Problem.{Problem, IsProblem}
 use Rattle.charge_model.specs.GroundList.{Entry, IsMarkedGroundList, lists_of}
 use Rattle.charge_model.specs.Tree.{IsLeastCertain, node_count}
@@ -18,19 +19,19 @@ use Rattle.ground_state.specs.Answer.{IsOverBudget, IsSolution, IsWithinBudget}
 use Rattle.gate_report.specs.GenText.{gen_text}
 use Rattle.run_answer.specs.declared.status.Status.{Status}
 use Rattle.run_answer.specs.declared.status.Status.TheVariants.{Answered, Budget, ListTooLong}
-use Rattle.task_gen.specs.declared.request.Settings.{Settings}
+use Rattle.command_words.specs.declared.settings.Settings.{Settings}
 use Rattle.task_gen.specs.Generator.{sites_of}
 use Rattle.task_gen.specs.GenAnswer.{IsGenAnswer, IsGenProblem}
 
 -- what layouts have
 pub record AreLayoutLaws : Type 0 where
-  pub layout : (number count : ℕ) → count ≤ 64 → (p : Arrangement) × IsMadeOf silicon (sites_of number count) [] p
+  pub layout : (number count : ℕ) → count ≤ MAX_SITES → (p : Arrangement) × IsMadeOf silicon (sites_of number count) [] p
   pub problem : (layout : Arrangement) (p : Params) → IsLayout layout → (q : Problem) × IsProblemOf layout p q × HoldsDistances layout p q × IsProblem q
 
 pub some_problem : AreLayoutLaws → (s : Settings) → (p : Problem) × IsGenProblem s p × IsProblem p
 some_problem laws s = with (laws.layout s.generated.number s.generated.sites few)
   where
-    few : s.generated.sites ≤ 64
+    few : s.generated.sites ≤ MAX_SITES
     few = let most : pos s.generated.sites ≤ℤ pos 64 = s.generated.in_range.sites_within.to in omega (arith, ints, most)
 
     with : ((layout : Arrangement) × IsMadeOf silicon (sites_of s.generated.number s.generated.sites) [] layout) → (p : Problem) × IsGenProblem s p × IsProblem p

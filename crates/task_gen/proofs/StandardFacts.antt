@@ -9,7 +9,7 @@ use Rattle.sidb_layout.specs.declared.site.Site.{Site}
 use Rattle.ground_entries.specs.declared.ground_list.Solved.{Solved}
 use Rattle.ground_state.specs.Answer.{IsOverBudget, IsSolution}
 use Rattle.run_answer.specs.declared.status.Status.TheVariants.{Answered, Budget}
-use Rattle.task_gen.specs.declared.request.Settings.{Settings}
+use Rattle.command_words.specs.declared.settings.Settings.{Settings}
 use Rattle.task_gen.specs.Generator.{drawn, next_state, sites_of}
 use Rattle.task_gen.specs.GenAnswer.{IsGenAnswer, IsGenProblem}
 

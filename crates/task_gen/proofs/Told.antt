@@ -1,10 +1,10 @@
 -- what an answered summary tells
-use Rattle.std.proofs.Common.{◌≡◌, inl, inr, ℕ, List}
+use Rattle.std.proofs.Common.{inl, inr, ℕ, List}
 use Rattle.charge_model.specs.Problem.{Problem}
 use Rattle.charge_model.specs.GroundList.{Entry, IsMarkedGroundList}
 use Rattle.run_answer.specs.declared.status.Status.TheVariants.{Answered}
 use Rattle.task_ground.specs.Told.{HoldsUnderEachTable}
-use Rattle.task_gen.specs.declared.request.Settings.{Settings}
+use Rattle.command_words.specs.declared.settings.Settings.{Settings}
 use Rattle.task_gen.specs.GenAnswer.{IsGenAnswer, IsGenReport}
 use Rattle.task_gen.specs.Told.{TellsGeneratedList}
 

@@ -12,7 +12,7 @@ use Rattle.gate_report.specs.GenText.{gen_text}
 use Rattle.run_answer.specs.declared.status.Status.{Status}
 use Rattle.run_answer.specs.declared.status.Status.TheVariants.{Answered}
 use Rattle.run_answer.specs.Status.{IsBudgetAnswer, IsLongListAnswer}
-use Rattle.task_gen.specs.declared.request.Settings.{Settings}
+use Rattle.command_words.specs.declared.settings.Settings.{Settings}
 use Rattle.task_gen.specs.Generator.{sites_of}
 
 -- the problem of the layout that the number generates, on the default lattice and without fixed

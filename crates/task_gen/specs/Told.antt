@@ -5,7 +5,7 @@ use Rattle.ground_entries.specs.declared.ground_list.Solved.{Solved}
 use Rattle.ground_state.specs.Answer.{IsSolution}
 use Rattle.gate_report.specs.GenText.{gen_text}
 use Rattle.task_ground.specs.Told.{HoldsUnderEachTable}
-use Rattle.task_gen.specs.declared.request.Settings.{Settings}
+use Rattle.command_words.specs.declared.settings.Settings.{Settings}
 use Rattle.task_gen.specs.GenAnswer.{IsGenProblem}
 
 -- the summary counts the nodes of the search tree, the entries, and the certain entries of the

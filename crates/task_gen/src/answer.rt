@@ -3,8 +3,8 @@ ghost use Rattle.ground_state.specs.Answer.{IsSolution};
 ghost use Rattle.run_answer.specs.Due.{DueIs};
 ghost use Rattle.task_gen.specs.GenAnswer.{IsGenAnswer, IsGenProblem};
 
-use crate::{Settings, generated_problem};
-use command_words::SearchSettings;
+use crate::generated_problem;
+use command_words::{SearchSettings, Settings};
 use gate_report::gen_text;
 use ground_entries::Solved;
 use ground_state::{SolveAnswer, solve};

@@ -1,4 +1,5 @@
 ghost use Rattle.std.specs.Prelude.{◌≡◌, ◌≤◌, ◌+◌, ◌^◌, ◌<◌, pos, IfOk};
+ghost use Rattle.charge_model.specs.declared.TheConstants.{MAX_SITES};
 ghost use Rattle.task_gen.specs.Generator.{column_after, drawn, next_state, site_by, sites_of, state_after};
 
 use sidb_layout::Site;
@@ -58,7 +59,7 @@ fn site_after(state: u64, column: u64) -> Drawing
 /// 4 more is how far it stands behind the column before; the second, modulo 3, is its row; the
 /// third, modulo 2, its atom.
 pub fn generated_sites(alloc: Global, number: u64, count: u64) -> Result<Vec<Site>, Memory>
-    requires { count ≤ 64 }
+    requires { count ≤ MAX_SITES }
     ensures { IfOk result (λ sites. sites.items ≡ sites_of number count) }
 {
     let mut sites = Vec::new(alloc);

@@ -1,13 +1,14 @@
 //! What holds of generated layouts and of the answers about them: there is one for all settings, and
 //! what it tells.
 ghost use Rattle.std.specs.Prelude.{◌≡◌, ◌≤◌, ℕ, List, [], length};
+ghost use Rattle.charge_model.specs.declared.TheConstants.{MAX_SITES};
 ghost use Rattle.charge_model.specs.Problem.{Problem, IsProblem};
 ghost use Rattle.sidb_layout.specs.Lattice.{silicon};
 ghost use Rattle.sidb_layout.specs.Layout.{Arrangement};
 ghost use Rattle.sidb_layout.specs.Refusal.{IsMadeOf};
 ghost use Rattle.run_answer.specs.declared.status.Status.{Status as StatusData};
 ghost use Rattle.run_answer.specs.declared.status.Status.TheVariants.{Answered};
-ghost use Rattle.task_gen.specs.declared.request.Settings.{Settings as SettingsData};
+ghost use Rattle.command_words.specs.declared.settings.Settings.{Settings as SettingsData};
 ghost use Rattle.task_gen.specs.GenAnswer.{IsGenAnswer, IsGenProblem};
 ghost use Rattle.task_gen.specs.Generator.{sites_of};
 ghost use Rattle.task_gen.specs.Told.{TellsGeneratedList};
@@ -29,7 +30,7 @@ pub fn so_many_sites_are_generated()
 /// The sites that a number generates, up to 64, make a layout of the default lattice: they are in
 /// range, and their columns rise.
 pub fn generated_sites_make_a_layout()
-    ensures { (number count : ℕ) → count ≤ 64
+    ensures { (number count : ℕ) → count ≤ MAX_SITES
         → (p : Arrangement) × IsMadeOf silicon (sites_of number count) [] p }
 {
     clear_places_make_a_layout();

@@ -1,11 +1,13 @@
 // The layout of generated sites, and its problem.
 ghost use Rattle.std.specs.Prelude.{◌≡◌, ◌≤◌, [], IfOk};
+ghost use Rattle.charge_model.specs.declared.TheConstants.{MAX_SITES};
 ghost use Rattle.sidb_layout.specs.Lattice.{silicon};
 ghost use Rattle.sidb_layout.specs.Refusal.{IsMadeOf};
 ghost use Rattle.task_gen.specs.GenAnswer.{IsGenProblem};
 ghost use Rattle.task_gen.specs.Generator.{sites_of};
 
-use crate::{Settings, generated_sites};
+use crate::generated_sites;
+use command_words::Settings;
 use potential_problem::Problem;
 use screened_coulomb::problem;
 use sidb_layout::{Layout, LayoutFault, layout_of};
@@ -25,7 +27,7 @@ fn only_memory(fault: LayoutFault) -> Memory
 /// The layout that a number generates, with so many sites: they are distinct, since their columns
 /// rise, and in range, since each column is at most 11 further than the one before.
 pub fn generated_layout(alloc: Global, number: u64, count: u64) -> Result<Layout, Memory>
-    requires { count ≤ 64 }
+    requires { count ≤ MAX_SITES }
     ensures { IfOk result (IsMadeOf silicon (sites_of number count) []) }
 {
     let sites = generated_sites(alloc, number, count)?;

@@ -5,9 +5,7 @@ mod answer;
 mod generator;
 pub mod laws;
 mod layout;
-mod request;
 
 pub use answer::gen_answer;
 pub use generator::generated_sites;
 pub use layout::{generated_layout, generated_problem};
-pub use request::{GeneratedSettings, Settings};
