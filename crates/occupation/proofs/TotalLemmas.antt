@@ -12,8 +12,8 @@ use Rattle.charge_model.specs.Problem.{Problem, IsProblem}
 use Rattle.charge_model.specs.Rules.{energy}
 use Rattle.occupation.specs.declared.TheConstants.{ONE, WHOLE}
 use Rattle.occupation.specs.declared.share.Share.{Share}
-use Rattle.occupation.specs.Rounding.{added, far_of, greatest_factor, least_factor, rounded_upper, share_lo, upper_sum}
-use Rattle.occupation.specs.Shares.{AreGaps, AreRoundedShares, IsGapSpan, IsRoundedShare, sum_of_lows}
+use Rattle.occupation.specs.Rounding.{far_of, greatest_factor, least_factor, rounded_upper, share_lo, upper_sum}
+use Rattle.occupation.specs.Shares.{AreRoundedShares, IsRoundedShare, sum_of_lows}
 use Rattle.occupation.proofs.FactorLemmas.{AreLaws, cancel, greatest_sized, least_sized}
 use Rattle.occupation.proofs.PairLemmas.{chosen, other}
 use Rattle.occupation.proofs.OrderLemmas.{ClosedIsGreater, factors_in_order}
