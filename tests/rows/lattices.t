@@ -68,3 +68,15 @@ A second such line is refused, also where the first one is out of range.
   $ printf '%s\n' 'lattice 801 0 0 768 0 225' '' 'lattice 384 0 0 768 0 225' | sidb
   fault input bad-line 3
   [3]
+
+The line may stand anywhere, among comments, empty lines, tabs, zeros in front of numbers and carriage returns;
+sites are numbered in row order.
+
+  $ printf '# two\r\n\t-2 3  1 \r\n\n 007\t-0 0\r\nlattice 225 0 0 768 0 225\nfix 4 -5 0 -3' | sidb | head -n 7
+  sidb-ground 2
+  sites 2
+  lattice 225 0 0 768 0 225
+  site 0 7 0 0
+  site 1 -2 3 1
+  fix 0 4 -5 0 -3
+  skipped 0

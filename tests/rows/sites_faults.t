@@ -70,6 +70,16 @@ or fixed charges.
   fault input duplicate 1 2
   [3]
 
+A number out of its range comes before them, and so does a ninth fixed charge.
+
+  $ printf '%s\n' '0 0 0' '0 0 0' 'fix 1 0 0 0' | sidb
+  fault input out-of-range 3
+  [3]
+
+  $ for n in 1 2 3 4 5 6 7 8 9; do echo fix 1 0 0 1; done | sidb
+  fault input too-many-fixes
+  [3]
+
 There are at most 64 sites.
 
   $ for n in $(seq 0 10 640); do echo $n 0 0; done | sidb

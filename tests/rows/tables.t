@@ -119,6 +119,35 @@ of `0--0` is 10: each may lie below the other.
   0--0 unresolved rival 0 -1 1
   end
 
+What cancels
+------------
+
+The outer sites have the same potential at the middle one, from 5 to 6: where one of them is positive and the
+other negative it is 0 whichever it is, so that the middle one may be negative, and neutral, whatever the
+potentials are. The energy is that of the outer pair alone.
+
+  $ sidb --form table --energies << END
+  > sidb-table 1
+  > sites 3
+  > base 3
+  > mu 0 -10
+  > class 5 6
+  > class 30 30
+  > pair 0 1 0
+  > pair 0 2 1
+  > pair 1 2 0
+  > end
+  > END
+  sidb-ground 1
+  sites 3
+  skipped 0
+  entries 4
+  --+ certain energy -30 -30
+  -0+ certain energy -30 -30
+  +-- certain energy -30 -30
+  +0- certain energy -30 -30
+  end
+
 Versions
 --------
 
@@ -162,4 +191,33 @@ sites.
   pair 0 1 0
   pair 0 2 0
   pair 1 2 0
+  end
+
+So do the lines of the classes of sites and fixed charges, which are printed behind those of the pairs.
+
+  $ sidb --form table --task potentials << END
+  > sidb-table 2
+  > sites 2
+  > fixed 1
+  > base 2
+  > mu -2 -5
+  > charge -1
+  > class 1 3
+  > class 4 4
+  > near 1 0 1
+  > pair 0 1 0
+  > near 0 0 1
+  > end
+  > END
+  sidb-table 2
+  sites 2
+  fixed 1
+  base 2
+  mu -2 -5
+  charge -1
+  class 1 3
+  class 4 4
+  pair 0 1 0
+  near 0 0 1
+  near 1 0 1
   end

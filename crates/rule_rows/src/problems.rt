@@ -1,6 +1,5 @@
-ghost use Rattle.std.specs.Prelude.{◌≡◌, ◌⊎◌, IfOk, [], ◌∷◌};
+ghost use Rattle.std.specs.Prelude.{◌≡◌, ◌⊎◌, IfOk};
 
-use charge_state::{Charge, Charges};
 use potential_problem::{Levels, Problem, problem_of, span_between};
 use sidb_units::Memory;
 use std::alloc::Global;
@@ -52,23 +51,4 @@ pub fn wide_pair(alloc: Global) -> Result<Problem, Memory>
         mu_plus: -590_000_000_002,
     };
     problem_of(alloc, 2, &[0], &[span_between(1, 3)], &levels)
-}
-
-/// A list of two charges.
-pub fn pair(first: Charge, second: Charge) -> Charges
-    ensures { result ≡ first ∷ second ∷ [] }
-{
-    let mut charges = Charges::empty();
-    charges.push(first);
-    charges.push(second);
-    charges
-}
-
-/// A list of three charges.
-pub fn triple(first: Charge, second: Charge, third: Charge) -> Charges
-    ensures { result ≡ first ∷ second ∷ third ∷ [] }
-{
-    let mut charges = pair(first, second);
-    charges.push(third);
-    charges
 }
