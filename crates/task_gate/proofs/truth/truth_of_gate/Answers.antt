@@ -1,0 +1,8 @@
+use Rattle.task_gate.proofs.Dues.{site_due, truth_due}
+use Rattle.task_gate.proofs.truth.truth_of_gate.Goals as goal
+
+pub returns-in-Some : goal.returns-in-Some
+returns-in-Some g c = site_due c.args.settings.now c.args.spec c.args.layout c.in-Some.place c.fault_due.result c.in-Some.ensures.site c.fault_due.ensures
+
+pub returns-in-None : goal.returns-in-None
+returns-in-None g c = truth_due c.args.settings.now c.args.spec c.args.layout c.answer_on.result c.in-None.ensures.on c.answer_on.ensures
