@@ -1,10 +1,12 @@
-//! The tasks that look beyond the ground: all charge lists within a window of energies above it, and
-//! their shares at a temperature.
+//! The tasks that look beyond one ground list: all charge lists within a window of energies above
+//! it, their shares at a temperature, and the ground lists at all levels of a range.
 #![tactic(auto)]
 
 pub mod laws;
+mod range;
 mod shares;
 mod window;
 
+pub use range::range_due;
 pub use shares::occupation_answer;
 pub use window::window_answer;
