@@ -2,5 +2,10 @@ pub mod EntryLists
 pub mod OneAnswer
 pub mod SomeAnswer
 pub mod Told
-mod StandardFacts
+pub mod OneRange
+pub mod SomeRange
+pub mod ToldRange
+pub mod RangeDue
+pub mod StandardFacts
 mod Refusals
+mod RangeFacts

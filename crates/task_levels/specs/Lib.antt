@@ -8,3 +8,9 @@ pub use Rattle.sim_report.specs.WindowText
 pub use Rattle.window_model.specs.Windows
 pub mod WindowAnswer
 pub mod Told
+pub use Rattle.level_range_laws.specs.Levels
+pub use Rattle.level_range_laws.specs.Parts
+pub use Rattle.level_range.specs.Answer
+pub use Rattle.range_report.specs.RangeText
+pub mod RangeAnswer
+pub mod ToldAtLevels

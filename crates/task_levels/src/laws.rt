@@ -1,5 +1,5 @@
-//! What holds of the answers of this task: there is one for each problem, and what it tells.
-ghost use Rattle.std.specs.Prelude.{◌≡◌, ℕ, List};
+//! What holds of the answers of these tasks: there is one for each problem, and what it tells.
+ghost use Rattle.std.specs.Prelude.{◌≡◌, ◌≢◌, ℕ, List, None};
 ghost use Rattle.charge_model.specs.Problem.{Problem, IsProblem};
 ghost use Rattle.command_words.specs.declared.settings.Settings.{Settings};
 ghost use Rattle.ground_report.specs.declared.about.About.{About as AboutData};
@@ -7,10 +7,17 @@ ghost use Rattle.run_answer.specs.declared.status.Status.{Status as StatusData};
 ghost use Rattle.run_answer.specs.declared.status.Status.TheVariants.{Answered};
 ghost use Rattle.task_levels.specs.WindowAnswer.{IsWindowListAnswer};
 ghost use Rattle.task_levels.specs.Told.{TellsNearLists};
+ghost use Rattle.task_levels.specs.RangeAnswer.{IsRangeAnswer};
+ghost use Rattle.task_levels.specs.ToldAtLevels.{TellsAtLevels};
 
 use certain_energy_laws::laws::least_certain_energies_exist;
 use ground_state::laws::one_window_answer;
+use level_range_laws::laws::{
+    answers_hold_ground_states, each_level_is_in_one_part, one_list_of_candidates,
+    one_list_of_printed_parts,
+};
 use marked_list_laws::laws::each_problem_has_a_marked_window_list;
+use range_answer_laws::laws::{each_interval_has_candidates, each_interval_has_printed_parts};
 use sim_report::laws::one_window_text;
 use task_ground::laws::entries_have_energies;
 use window_laws::laws::{
@@ -45,4 +52,31 @@ pub fn window_answers_tell()
     near_lists_are_listed();
     certain_entries_are_near_the_ground();
     unresolved_entries_fail_within();
+}
+
+/// For a problem and the range of the settings one status and one text at most are the answer.
+pub fn one_range_answer()
+    ensures { (s : Settings) (p : Problem) (a b : StatusData) (t u : List ℕ)
+        → IsRangeAnswer s p a t → IsRangeAnswer s p b u → (a ≡ b) × (t ≡ u) }
+{
+    one_list_of_candidates();
+    one_list_of_printed_parts();
+}
+
+/// For a problem some status and some text are the answer, where the settings have a range.
+pub fn some_range_answer()
+    ensures { (s : Settings) (p : Problem) → IsProblem p → s.levels.range ≢ None
+        → (status : StatusData) × (text : List ℕ) × IsRangeAnswer s p status text }
+{
+    each_interval_has_candidates();
+    each_interval_has_printed_parts();
+}
+
+/// A text that is answered tells the ground list at each level of each part that is not split.
+pub fn range_answers_tell()
+    ensures { (s : Settings) (p : Problem) (text : List ℕ)
+        → IsRangeAnswer s p Answered text → TellsAtLevels s p text }
+{
+    each_level_is_in_one_part();
+    answers_hold_ground_states();
 }
