@@ -7,3 +7,4 @@ pub mod Searched
 pub mod RaiseLemmas
 mod StandardFacts
 mod Refusals
+pub mod Bounded

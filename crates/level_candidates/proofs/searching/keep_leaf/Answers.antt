@@ -4,6 +4,10 @@ use Rattle.level_candidates.proofs.Searched.{kept_none, kept_full, kept_one, no_
 use Rattle.level_candidates.proofs.searching.keep_leaf.Goals as goal
 use Rattle.level_candidates.proofs.searching.keep_leaf.Goals.{then-is_empty-via-then-is_empty, then-is_empty-via-else-is_empty+then-len-gt-MAX_ENTRIES}
 
+pub returns-then-not-may_be_candidate : goal.returns-then-not-may_be_candidate
+returns-then-not-may_be_candidate c = kept_none c.args.problem.now c.args.levels c.args.track.now.prefix c.args.found.now c.requires.full
+    (λ h. c.may_be_candidate.ensures c.if-not-may_be_candidate.true h.level h.inside h.possible)
+
 pub returns-then-is_empty : goal.returns-then-is_empty
 returns-then-is_empty c =
     let p = c.args.problem.now in
