@@ -103,14 +103,17 @@ generated : (a : Settings) (s : SearchSettings) (p : Problem) → IsGenProblem a
 generated a s p is = record { layout = is.layout; made = is.made; of_layout = is.of_layout; holds = is.holds }
 
 gen : (a : Settings) (s : SearchSettings) → a.search.limit ≡ s.limit → (status : Status) (text : List ℕ) → IsGenAnswer a status text → IsGenAnswer (with_search a s) status text
-gen a s same status text (inl is) = inl (is.0, record {
-  problem = is.1.problem;
-  generated = generated a s is.1.problem is.1.generated;
-  solved = is.1.solved;
-  solution = subst (λ limit. IsSolution is.1.problem limit is.1.solved) same is.1.solution;
-  few = is.1.few;
-  prints = is.1.prints;
-})
+gen a s same status text (inl is) = inl (
+  is.0,
+  record {
+    problem = is.1.problem;
+    generated = generated a s is.1.problem is.1.generated;
+    solved = is.1.solved;
+    solution = subst (λ limit. IsSolution is.1.problem limit is.1.solved) same is.1.solution;
+    few = is.1.few;
+    prints = is.1.prints;
+  },
+)
 gen a s same status text (inr (inl (is, line))) = inr (inl (
   record { problem = is.problem; generated = generated a s is.problem is.generated; over = subst (λ limit. IsOverBudget is.problem limit) same is.over },
   subst (λ limit. IsBudgetAnswer limit status text) same line,

@@ -1,5 +1,5 @@
 -- a problem has one answer at the levels of a range
-use Rattle.std.proofs.Common.{◌≡◌, ◌∙◌, inl, inr, sym, ap, subst, ℕ, ◌<◌, ◌≤◌, List, length, arith, Some}
+use Rattle.std.proofs.Common.{◌≡◌, ◌∙◌, inl, inr, sym, ap, subst, ℕ, List, length, arith, Some}
 use Rattle.charge_model.specs.declared.charge.Charge.{Charge}
 use Rattle.charge_model.specs.Problem.{Problem}
 use Rattle.command_words.specs.declared.settings.DepthRange.{DepthRange}

@@ -10,7 +10,7 @@ use Rattle.level_range_laws.specs.RangePrefixes.{range_prefix_count}
 use Rattle.level_range_laws.proofs.StandardFacts.{three_levels, three_prefixes, below_zero, at_zero, two_parts}
 use Rattle.level_range.specs.Answer.{HasFewCandidates}
 use Rattle.run_answer.specs.declared.status.Status.{Status}
-use Rattle.run_answer.specs.declared.status.Status.TheVariants.{Answered, Budget, ListTooLong, Memory}
+use Rattle.run_answer.specs.declared.status.Status.TheVariants.{Answered, Budget, Memory}
 use Rattle.task_levels.specs.RangeAnswer.{IsAnswerWithin, IsRangeAnswer, levels_between}
 use Rattle.task_levels.proofs.StandardFacts.{line}
 

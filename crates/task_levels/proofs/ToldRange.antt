@@ -1,6 +1,6 @@
 -- what an answered text tells at each level
-use Rattle.std.proofs.Common.{◌≡◌, inl, inr, ℕ, ◌<◌, ℤ, ◌≤ℤ◌, List, length, subst, Some, None, Option, pos}
-use Rattle.std.specs.Prelude.{All, Contains, IsTrue}
+use Rattle.std.proofs.Common.{◌≡◌, inl, inr, ℕ, ℤ, ◌≤ℤ◌, List, subst, Some, None, Option, pos}
+use Rattle.std.specs.Prelude.{Contains, IsTrue}
 use Rattle.charge_model.specs.declared.charge.Charge.{Charge}
 use Rattle.charge_model.specs.Problem.{Problem, UnderEveryTable}
 use Rattle.charge_model.specs.Rules.{IsGroundState}
@@ -8,10 +8,10 @@ use Rattle.command_words.specs.declared.settings.Settings.{Settings}
 use Rattle.level_range_laws.specs.declared.interval.Interval.{Interval}
 use Rattle.level_range_laws.specs.Levels.{at_level, IsIn}
 use Rattle.level_range_laws.specs.Answers.{Outcome, IsAnswerAt, lists_of}
-use Rattle.level_range_laws.specs.Parts.{Printed, ArePrinted, IsPrintedPart, HasLevel, IsInOne, printed_at, printed_split}
+use Rattle.level_range_laws.specs.Parts.{Printed, ArePrinted, IsPrintedPart, IsInOne, printed_at, printed_split}
 use Rattle.run_answer.specs.declared.status.Status.TheVariants.{Answered}
 use Rattle.task_levels.specs.RangeAnswer.{IsRangeReport, IsAnswerWithin, IsRangeAnswer, levels_between}
-use Rattle.task_levels.specs.ToldAtLevels.{HoldsAtLevel, PartsTell, TellsAtLevels}
+use Rattle.task_levels.specs.ToldAtLevels.{PartsTell, TellsAtLevels}
 
 -- the laws of parts and of answers
 pub record PartLaws : Type 0 where

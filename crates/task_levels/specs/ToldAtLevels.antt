@@ -1,11 +1,10 @@
 -- what the text of a range of levels tells, at each level
-use Rattle.std.specs.Prelude.{◌≡◌, ℕ, ◌<◌, ℤ, IsTrue, Some, List, length, All, Contains}
+use Rattle.std.specs.Prelude.{◌≡◌, ℕ, ◌<◌, ℤ, IsTrue, Some, List, length, Contains}
 use Rattle.charge_model.specs.declared.charge.Charge.{Charge}
 use Rattle.charge_model.specs.Problem.{Problem, UnderEveryTable}
 use Rattle.charge_model.specs.Rules.{IsGroundState}
 use Rattle.command_words.specs.declared.settings.DepthRange.{DepthRange}
 use Rattle.command_words.specs.declared.settings.Settings.{Settings}
-use Rattle.level_range_laws.specs.declared.interval.Interval.{Interval}
 use Rattle.level_range_laws.specs.Levels.{at_level, IsIn}
 use Rattle.level_range_laws.specs.Answers.{Outcome, IsAnswerAt, lists_of}
 use Rattle.level_range_laws.specs.Parts.{Printed, HasLevel, IsInOne, printed_at}

@@ -1,11 +1,8 @@
 use Rattle.std.proofs.Common.{◌≡◌, ◌∙◌, ◌<◌, ap, sym, subst, arith, pos, ◌*ℤ◌, ◌≤ℤ◌}
-use Rattle.std.proofs.lemmas.Int.{ints}
 use Rattle.charge_model.specs.Charges.{charge_at}
 use Rattle.charge_model.specs.Rules.{potential_at}
-use Rattle.level_range_laws.specs.Levels.{gap_of}
 use Rattle.level_candidates.specs.Ends.{Allows}
 use Rattle.level_candidates.proofs.Bounded.{AreBounds, allowed}
-use Rattle.level_candidates.proofs.Sided.{allowed_at}
 use Rattle.level_candidates.proofs.ends.may_be_candidate.Goals as goal
 
 pub loop-k-preserved : goal.loop-k-preserved
