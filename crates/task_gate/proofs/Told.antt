@@ -42,6 +42,7 @@ pub record GatesHold : Type 0 where
 truth_report_tells : GatesHold → (s : Settings) (gate : Logic) (layout : Arrangement) (text : List ℕ) → IsTruthReport s (placed_by s gate layout) text → TellsTruthOfGate s gate layout text
 truth_report_tells laws s gate layout text is = record {
   table = is.table;
+  count = is.answers.count;
   prints = is.prints;
   holds = λ k lt.
       let one = is.answers.each k lt in (
@@ -74,6 +75,7 @@ truth_tells laws s gate layout text (inr site) = absurd (cc (site.answers.status
 domain_report_tells : WorkingGatesRead → FailingGatesMiss → (s : Settings) (gate : Logic) (a : Axes) (layout : Arrangement) (text : List ℕ) → IsDomainReport s (placed_by s gate layout) a text → TellsDomainOfGate s gate a layout text
 domain_report_tells reads misses s gate a layout text is = record {
   cells = is.cells;
+  count = is.of_grid.count;
   prints = is.prints;
   holds = λ k lt.
       let one = is.of_grid.each k lt in

@@ -1,5 +1,5 @@
 -- what the reports of gates tell, whatever the potentials are inside their spans
-use Rattle.std.specs.Prelude.{◌≡◌, ℕ, ◌<◌, ◌*◌, List, slice_index_or}
+use Rattle.std.specs.Prelude.{◌≡◌, ℕ, ◌<◌, ◌*◌, List, length, slice_index_or}
 use Rattle.sidb_layout.specs.Layout.{Arrangement}
 use Rattle.model_params.specs.declared.params.Params.{Params}
 use Rattle.command_words.specs.declared.settings.Settings.{Settings}
@@ -28,6 +28,7 @@ pub record PatternHolds (s : Setting) (k : ℕ) (a : PatternAnswer) : Type 0 whe
 pub record TellsTruthOfGate (s : Settings) (gate : Logic) (layout : Arrangement) (text : List ℕ)
     : Type 0 where
   pub table : List PatternAnswer
+  pub count : length table ≡ pattern_count gate
   pub prints : text ≡ truth_report s.report.json gate table
   pub holds : (k : ℕ) → k < pattern_count gate → (a : PatternAnswer)
       × (slice_index_or table k a ≡ a) × PatternHolds (asked_by s gate layout) k a
@@ -49,6 +50,7 @@ pub record CellHolds (s : Settings) (gate : Logic) (a : Axes) (layout : Arrangem
 pub record TellsDomainOfGate (s : Settings) (gate : Logic) (a : Axes) (layout : Arrangement)
     (text : List ℕ) : Type 0 where
   pub cells : List Cell
+  pub count : length cells ≡ a.eps.count * a.lam.count
   pub prints : text ≡ domain_report s.report.json cells
   pub holds : (k : ℕ) → k < a.eps.count * a.lam.count → (cell : Cell)
       × (slice_index_or cells k cell ≡ cell) × CellHolds s gate a layout k cell

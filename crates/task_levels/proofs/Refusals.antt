@@ -3,8 +3,8 @@ use Rattle.std.proofs.Common.{inl, inr, List, ℕ}
 use Rattle.charge_model.specs.Problem.{Problem}
 use Rattle.command_words.specs.declared.settings.Settings.{Settings}
 use Rattle.ground_report.specs.declared.about.About.{About}
-use Rattle.ground_state.specs.Window.{IsWindowOverBudget}
-use Rattle.run_answer.specs.declared.status.Status.TheVariants.{Budget, Memory}
+use Rattle.ground_state.specs.Window.{IsWindowOverBudget, IsWindowTooLongWithin}
+use Rattle.run_answer.specs.declared.status.Status.TheVariants.{Budget, ListTooLong, Memory}
 use Rattle.task_levels.specs.OccupationAnswer.{IsOccupationAnswer}
 use Rattle.task_levels.specs.WindowAnswer.{IsWindowListAnswer}
 
