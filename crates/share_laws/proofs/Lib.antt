@@ -1,0 +1,5 @@
+pub mod StandardFacts
+pub mod Squares
+pub mod Numbers
+pub mod Factors
+pub mod LowLemmas
