@@ -28,3 +28,33 @@ fn one_worker_steps_as_stated(rt: HostRuntime) -> Result<(), Fail> {
     );
     Ok(())
 }
+
+/// Two seats are made before any step, and each begins with what the opening seat saw; joined, they
+/// give the sum of their counts, all their claims, and the least energy that one of them published.
+#[test]
+fn two_seats_are_made_and_joined(rt: HostRuntime) -> Result<(), Fail> {
+    let Ok((board, mut seats)) = make_board(rt.alloc(), 0, 1, 1, 2) else {
+        panic!(rt; "no memory")
+    };
+    assert!(rt; look(&board, &mut seats[0]) == 1);
+    assert!(rt; look(&board, &mut seats[1]) == 1);
+    publish(&board, &mut seats[1], -5);
+    assert!(rt; enter(&board, &mut seats[0], 0) == Entered::Yes);
+    assert!(rt; enter(&board, &mut seats[1], -6) == Entered::Spent);
+    assert!(rt; look(&board, &mut seats[0]) == -5);
+    publish(&board, &mut seats[0], 7);
+    assert!(rt; look(&board, &mut seats[1]) == -5);
+    assert!(rt; claim(&board, &mut seats[1]) == Some(0));
+    assert!(rt; claim(&board, &mut seats[0]) == None);
+    assert!(rt; claim(&board, &mut seats[1]) == None);
+    let Ok(closed) = close(rt.alloc(), board, seats) else {
+        panic!(rt; "no memory")
+    };
+    let wanted = Closed {
+        bound: -5,
+        entered: 2,
+        claimed: 3,
+    };
+    assert!(rt; closed == wanted);
+    Ok(())
+}
