@@ -48,6 +48,7 @@ from .errors import (
 from .layout import SILICON, Axis, Fixed, Gate, Grid, Lattice, Layout, Place, Table, read_sites, read_sqd
 from .parameters import Parameters
 from .program import Program, Version, find_program
+from .sweeps import Point, Sweep, cut_domain, sweep
 from .tasks import (
     certify,
     check,

@@ -6,7 +6,7 @@ numbers of 10^-2 Å.
 
 from __future__ import annotations
 
-from collections.abc import Iterable, Iterator, Sequence
+from collections.abc import Collection, Iterable, Iterator, Sequence
 from dataclasses import dataclass, replace
 from decimal import Decimal
 from pathlib import Path
@@ -121,11 +121,11 @@ class Layout:
         return _SitesText(text, name).layout()
 
     @classmethod
-    def from_sqd_text(cls, text: bytes | str, name: str = "", electrodes: str = "refuse") -> Layout:
+    def from_sqd_text(cls, text: bytes | str, name: str = "", leave_out: Collection[str] = ()) -> Layout:
         """The layout of the bytes of a SiQAD file; see ``read_sqd``."""
         from .sqd import layout_of_sqd
 
-        return layout_of_sqd(text, name, electrodes)
+        return layout_of_sqd(text, name, leave_out)
 
     def with_sites(self, sites: Iterable[Iterable[int]]) -> Layout:
         """The same with these sites in place of its own."""
@@ -313,14 +313,15 @@ def read_sites(path: str | Path) -> Layout:
     return Layout.from_sites_text(text, Path(path).stem)
 
 
-def read_sqd(path: str | Path, electrodes: str = "refuse") -> Layout:
+def read_sqd(path: str | Path, leave_out: Collection[str] = ()) -> Layout:
     """The layout of a file that SiQAD saved.
 
-    Takes the dots; the vectors of the lattice; charged defects as fixed charges; and the parameters of the last
-    simulation. Refuses, by a FileFault, electrodes (``electrodes="leave out"`` leaves them out) and whatever a
-    layout cannot hold. ``left_out`` of the layout names all that counts for nothing here.
+    Takes the dots; the vectors of the lattice; charged defects as fixed charges; and the parameters of a simulation.
+    Refuses, by a FileFault, what a layout cannot hold. Three things are refused unless ``leave_out`` names them:
+    "electrodes"; "screening", a permittivity or screening length of a defect's own; "physloc", positions in Å that
+    are not those of the places. ``left_out`` of the layout names what counts for nothing.
     """
-    return Layout.from_sqd_text(read_bytes(path), Path(path).stem, electrodes)
+    return Layout.from_sqd_text(read_bytes(path), Path(path).stem, leave_out)
 
 
 #: The values of each function for the patterns in their order, by the number of inputs.
