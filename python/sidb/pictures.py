@@ -233,7 +233,7 @@ def _draw_lattice(ax: Axes, scene: Scene) -> None:
     left, right, top, bottom = scene.frame()
     column, row = lattice.ax / 100, lattice.by / 100
     points = ax.get_position().width * ax.figure.get_size_inches()[0] * 72 / (right - left) * column
-    if column <= 0 or row <= 0 or lattice.ay != 0 or points < 2.5:
+    if column <= 0 or row <= 0 or lattice.ay != 0 or points < 4:
         return
     starts = [scene.at(Place(0, m, atom)) for m in range(math.floor(top / row) - 1, math.ceil(bottom / row) + 1) for atom in (0, 1)]
     ends = [(x + math.ceil((left - x) / column) * column, y) for x, y in starts if top < y < bottom]

@@ -17,7 +17,7 @@ from dataclasses import dataclass
 from itertools import islice
 from pathlib import Path
 from queue import SimpleQueue
-from typing import Any
+from typing import Any, TextIO
 
 from . import tasks
 from .answers import Cell, DomainAnswer, Row
@@ -89,9 +89,9 @@ class Sweep:
         """The rows of all points."""
         return [row for point in self.points for row in point.rows()]
 
-    def write_csv(self, path: str | Path) -> None:
+    def write_csv(self, target: str | Path | TextIO) -> None:
         """Writes the rows to a file, with a head."""
-        write_csv(self.rows(), path)
+        write_csv(self.rows(), target)
 
     def frame(self) -> Any:
         """The rows as a data frame of pandas, which has to be there."""
@@ -100,13 +100,16 @@ class Sweep:
         return pandas.DataFrame(self.rows())
 
 
-def write_csv(rows: Sequence[Mapping[str, Any]], path: str | Path) -> None:
-    """Writes rows to a file; the head has each column that a row has."""
+def write_csv(rows: Sequence[Mapping[str, Any]], target: str | Path | TextIO) -> None:
+    """Writes rows to a file, or to what can be written to; the head has each column that a row has."""
+    if isinstance(target, (str, Path)):
+        with open(target, "w", newline="", encoding="utf-8") as file:
+            return write_csv(rows, file)
     columns = dict.fromkeys(name for row in rows for name in row)
-    with open(path, "w", newline="", encoding="utf-8") as file:
-        writer = csv.DictWriter(file, list(columns), restval="", lineterminator="\n")
-        writer.writeheader()
-        writer.writerows(rows)
+    writer = csv.DictWriter(target, list(columns), restval="", lineterminator="\n")
+    writer.writeheader()
+    writer.writerows(rows)
+    return None
 
 
 @dataclass(frozen=True)
