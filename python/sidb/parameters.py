@@ -20,8 +20,8 @@ def decimal_of(value: Number, name: str) -> Decimal:
         made = Decimal(repr(value) if isinstance(value, float) else value)
     except InvalidOperation:
         raise ValueFault(f"{name} has to be a number, and is {value!r}.") from None
-    if not made.is_finite():
-        raise ValueFault(f"{name} has to be a finite number, and is {value!r}.")
+    if not made.is_finite() or made.adjusted() > 20 or int(made.as_tuple().exponent) < -30:
+        raise ValueFault(f"{name} has to be a number of no more than 20 digits and 30 places, and is {str(value)[:40]!r}.")
     return made
 
 

@@ -174,9 +174,17 @@ def test_empty_layout_has_one_empty_list() -> None:
     assert [entry.charges for entry in answer.entries] == [""]
 
 
-def test_dense_layout_in_base_two_has_no_list() -> None:
-    layout = sidb.Layout([(n, 0, 0) for n in range(12)])
-    assert layout.ground(parameters=sidb.Parameters(base=2)).entries == ()
+def test_no_list_is_valid_where_a_dot_can_only_be_positive() -> None:
+    pushed = sidb.Layout([(0, 0, 0)], [(1, 0, 0, -2)])
+    assert [entry.charges for entry in pushed.ground().entries] == ["+"]
+    assert pushed.ground(parameters=sidb.Parameters(base=2)).entries == ()
+
+
+def test_another_lattice() -> None:
+    close = sidb.Layout([(0, 0, 0), (1, 0, 0)], lattice=(225, 0, 0, 768, 0, 225))
+    answer = close.ground()
+    assert [entry.charges for entry in answer.entries] == ["-+", "+-"]
+    assert answer.run.program.form == "sidb-ground 2"
 
 
 def test_answers_go_through_pickle(or_gate: sidb.Gate) -> None:
