@@ -47,7 +47,8 @@ truth.draw(path=FOLDER / "patterns.svg")
 
 single = gate.layout_of(1)
 ground = single.ground()
-print(f"{ground.entries[0].energy} is {ground.entries[0].energy.ev} eV")
+least, greatest = ground.entries[0].energy.ev
+print(f"pattern 1 alone: energy between {least} and {greatest} eV")
 ground.draw(path=FOLDER / "ground.svg")
 
 # %% Where it works: 24 by 24 points of permittivity and screening length, on all processors.

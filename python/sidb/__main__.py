@@ -5,7 +5,9 @@ from __future__ import annotations
 import argparse
 import sys
 from collections.abc import Sequence
+from concurrent.futures import Executor
 from pathlib import Path
+from typing import Any
 
 from . import sweeps, tasks
 from .answers import Cell, GroundAnswer
@@ -22,6 +24,7 @@ from .errors import SidbError
 from .layout import Grid, Layout, read_sqd
 from .parameters import DECIMAL_WORDS, Parameters
 from .sqd import CAN_LEAVE_OUT
+from .tasks import Settings
 
 
 def _add_draw(parser: argparse.ArgumentParser) -> None:
@@ -35,15 +38,15 @@ def _add_draw(parser: argparse.ArgumentParser) -> None:
 def _draw(arguments: argparse.Namespace) -> int:
     gate = gate_of(arguments) if arguments.input else None
     layout = gate.layout if gate else layout_of(arguments)
-    settings = {"parameters": parameters_of(arguments, layout), "limit": arguments.limit, "program": arguments.program}
+    settings: Settings = {"parameters": parameters_of(arguments, layout), "limit": arguments.limit, "program": arguments.program}
     if gate:
-        truth = tasks.truth(gate, **settings)  # type: ignore[arg-type]
+        truth = tasks.truth(gate, **settings)
         truth.draw(path=arguments.to)
         for row in truth.rows():
             print("{pattern} wants {wants}: {verdict}, {charges}".format(**row))
         print(f"verdict: {truth.verdict}")
     else:
-        answer = tasks.ground(layout, **settings)  # type: ignore[arg-type]
+        answer = tasks.ground(layout, **settings)
         answer.draw(arguments.entry, arguments.to)
         _print_ground(answer)
     return 0
@@ -119,10 +122,12 @@ def _varied(parameters: list[Parameters], vary: Sequence[str]) -> list[Parameter
     return parameters
 
 
-def _cluster(address: str):  # type: ignore[no-untyped-def]
-    from distributed import Client
+def _cluster(address: str) -> Executor:
+    import distributed
 
-    return Client(address).get_executor()
+    client: Any = distributed
+    executor: Executor = client.Client(address).get_executor()
+    return executor
 
 
 def _add_from_sqd(parser: argparse.ArgumentParser) -> None:

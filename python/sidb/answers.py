@@ -13,7 +13,7 @@ from decimal import Decimal
 from pathlib import Path
 from typing import Any, NamedTuple
 
-from .layout import Fixed, Gate, Grid, Layout, Place
+from .layout import Gate, Grid, Layout, Place
 from .parameters import Parameters
 from .program import Version
 
@@ -509,7 +509,7 @@ class GenAnswer:
 
 
 __all__ = [
-    "Cell", "CertificateAnswer", "DomainAnswer", "Entry", "Fixed", "GenAnswer", "GroundAnswer", "Interval",
+    "Cell", "CertificateAnswer", "DomainAnswer", "Entry", "GenAnswer", "GroundAnswer", "Interval",
     "LevelEntry", "Mark", "OccupationAnswer", "Part", "Pattern", "PotentialsAnswer", "RangeAnswer", "RegionAnswer",
     "Row", "Run", "Share", "Tile", "TruthAnswer", "WindowAnswer", "ev_of",
 ]  # fmt: skip

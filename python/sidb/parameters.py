@@ -77,7 +77,7 @@ class Parameters:
 
     def with_(self, **changed: Number) -> Parameters:
         """The same with some changed: ``parameters.with_(eps="6", lam=5)``."""
-        return replace(self, **changed)  # type: ignore[arg-type]
+        return replace(self, **changed)
 
     def as_row(self) -> dict[str, str]:
         """Each as a text, by its name."""

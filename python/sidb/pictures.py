@@ -78,7 +78,8 @@ def save(figure: Figure, path: str | FilePath) -> None:
     ending = FilePath(path).suffix.lower()
     if ending not in (".svg", ".png", ".pdf"):
         raise ValueFault(f"A picture is written as .svg, .png or .pdf, and not as {str(path)!r}.")
-    metadata: dict[str, Any] = {".svg": {"Date": None}, ".pdf": {"CreationDate": None}}.get(ending, {})
+    undated = {".svg": "Date", ".pdf": "CreationDate"}.get(ending)
+    metadata = {undated: None} if undated else {}
     with matplotlib.rc_context(_SETTINGS):
         figure.savefig(path, format=ending[1:], metadata=metadata, bbox_inches="tight", dpi=150)
 
@@ -222,7 +223,7 @@ def _plain(text: str) -> str:
 def _dot_size(ax: Axes, scene: Scene) -> float:
     """The diameter of a dot, in points: so that neighbours in a picture don't cover one another."""
     left, right, _, _ = scene.frame()
-    width = ax.get_position().width * ax.figure.get_size_inches()[0] * 72
+    width = float(ax.get_position().width * ax.figure.get_size_inches()[0] * 72)
     return min(max(width / (right - left) * 3.4, 4.0), 14.0)
 
 

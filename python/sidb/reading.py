@@ -132,7 +132,8 @@ def ground_part(lines: Lines) -> tuple[Layout, int, tuple[Entry, ...]]:
     """From ``sites N`` on, to the end: the layout, what was skipped, the entries."""
     (count,) = lines.numbers("sites", 1)
     lattice = Lattice(*lines.numbers("lattice", 6)) if lines.peek() == "lattice" else SILICON
-    sites, fixed = [], []
+    sites: list[Place] = []
+    fixed: list[Fixed] = []
     while lines.peek() == "site":
         sites.append(Place(*lines.numbers(f"site {len(sites)}", 3)))
     while lines.peek() == "fix":
@@ -272,7 +273,9 @@ def truth_of(text: str) -> tuple[list[PatternLines], str, int | None]:
     form_of(text, "sidb-truth")
     lines = Lines(text)
     lines.next()
-    lines.words("function", 1), lines.numbers("inputs", 1), lines.numbers("outputs", 1)
+    lines.words("function", 1)
+    lines.numbers("inputs", 1)
+    lines.numbers("outputs", 1)
     patterns = []
     while lines.peek() == "pattern":
         patterns.append(_pattern_of(lines))

@@ -104,12 +104,12 @@ def write_csv(rows: Sequence[Mapping[str, Any]], target: str | Path | TextIO) ->
     """Writes rows to a file, or to what can be written to; the head has each column that a row has."""
     if isinstance(target, (str, Path)):
         with open(target, "w", newline="", encoding="utf-8") as file:
-            return write_csv(rows, file)
+            write_csv(rows, file)
+        return
     columns = dict.fromkeys(name for row in rows for name in row)
     writer = csv.DictWriter(target, list(columns), restval="", lineterminator="\n")
     writer.writeheader()
     writer.writerows(rows)
-    return None
 
 
 @dataclass(frozen=True)

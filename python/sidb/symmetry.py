@@ -149,7 +149,7 @@ def _different_images(subject: Layout | Gate) -> dict[Symmetry, Layout | Gate]:
     layout = subject.layout if isinstance(subject, Gate) else subject
     seen: dict[object, tuple[Symmetry, Layout | Gate]] = {}
     for symmetry in symmetries(layout):
-        image = symmetry.gate(subject) if isinstance(subject, Gate) else symmetry.layout(subject)
+        image: Layout | Gate = symmetry.gate(subject) if isinstance(subject, Gate) else symmetry.layout(subject)
         seen.setdefault(_shape(image), (symmetry, image))
     return dict(seen.values())
 
@@ -159,8 +159,7 @@ def _shape(image: Layout | Gate) -> object:
     layout = image.layout if isinstance(image, Gate) else image
     places = [*layout.sites, *layout.fixed] or [Place(0, 0, 0)]
     shifted = layout.translated(-min(place[0] for place in places), -min(place[1] for place in places))
-    pairs = (frozenset(map(frozenset, image.inputs)), image.outputs) if isinstance(image, Gate) else ()
-    return shifted.sites, shifted.fixed, pairs
+    return shifted.sites, shifted.fixed, (image.inputs, image.outputs) if isinstance(image, Gate) else ()
 
 
 def _first_to_answer(images: dict[Symmetry, Layout | Gate], limit: int, settings: dict[str, Any]) -> tuple[Answers, int, int]:
@@ -181,9 +180,9 @@ def _first_to_answer(images: dict[Symmetry, Layout | Gate], limit: int, settings
 def _answers(images: dict[Symmetry, Layout | Gate], limit: int, settings: dict[str, Any]) -> Answers:
     found = {}
     for symmetry, image in images.items():
-        task = tasks.truth if isinstance(image, Gate) else tasks.ground
+        task = tasks.TASKS["truth" if isinstance(image, Gate) else "ground"]
         try:
-            found[symmetry] = task(image, limit=limit, **settings)  # type: ignore[arg-type]
+            found[symmetry] = task(image, limit=limit, **settings)
         except BudgetFault:
             continue
     return found

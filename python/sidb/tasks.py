@@ -7,9 +7,10 @@ All take, by name: ``parameters`` (None: those of the layout), ``limit`` (the mo
 
 from __future__ import annotations
 
+from collections.abc import Callable
 from dataclasses import dataclass
 from pathlib import Path
-from typing import TypedDict, Unpack
+from typing import Any, TypedDict, Unpack
 
 from . import reading
 from .answers import (
@@ -118,9 +119,8 @@ def window(layout: Subject, window: Number, **settings: Unpack[Settings]) -> Win
 
 def occupation(layout: Subject, window: Number, kt: Number, **settings: Unpack[Settings]) -> OccupationAnswer:
     """The shares of the charge lists within ``window`` (eV) of the ground, among them, at ``kt`` (eV, 0.001 to 1)."""
-    words = ("--window", word_of(decimal_of(window, "The window"), "window"))
-    words += ("--kt", word_of(decimal_of(kt, "kT"), "kt"))
-    run = _call("occupation", layout, settings, *words).run("sidb-occupation")
+    words = [word_of(decimal_of(window, "The window"), "window"), word_of(decimal_of(kt, "kT"), "kt")]
+    run = _call("occupation", layout, settings, "--window", words[0], "--kt", words[1]).run("sidb-occupation")
     return OccupationAnswer(layout if isinstance(layout, Layout) else None, *reading.occupation_of(run.text), run)
 
 
@@ -194,7 +194,7 @@ def gen(number: int, sites: int = 40, **settings: Unpack[Settings]) -> GenAnswer
 
 
 #: Each task by its name in Python.
-TASKS = {
+TASKS: dict[str, Callable[..., Any]] = {
     "ground": ground,
     "window": window,
     "occupation": occupation,
