@@ -52,26 +52,26 @@ high_bottom c point k a eps lam some =
 
 corner_low_bottom : (p : Params) (k a : ℕ) → 0 < (low_at_order p k a).bottom
 corner_low_bottom p k a =
-    let eps : 0 < eps_of p = omega (arith, ints, p.in_range.eps_from) in
-    let lam : 0 < lam_of p = omega (arith, ints, p.in_range.lam_from) in
+    let eps : 0 < eps_of p = omega (arith, ints, p.in_range.eps_within.from) in
+    let lam : 0 < lam_of p = omega (arith, ints, p.in_range.lam_within.from) in
     chosen_bottom (top_of (a + 1)) (suc (suc k) * bottom_of (lam_of p) k) (closed_low (coulomb_of p) (eps_of p) (lam_of p) k a)
     (λ near. product_some (eps_of p * (a + 1)) (closed_sum (top_of (a + 1)) (bottom_of (lam_of p) k) k) (product_some (eps_of p) (a + 1) eps (omega arith)) (closed_some (top_of (a + 1)) (bottom_of (lam_of p) k) k (scaled_screening k (lam_of p) lam) near))
 
 corner_high_bottom : (p : Params) (k a : ℕ) → 0 < a → 0 < (high_at_order p k a).bottom
 corner_high_bottom p k a some =
-    let eps : 0 < eps_of p = omega (arith, ints, p.in_range.eps_from) in
-    let lam : 0 < lam_of p = omega (arith, ints, p.in_range.lam_from) in
+    let eps : 0 < eps_of p = omega (arith, ints, p.in_range.eps_within.from) in
+    let lam : 0 < lam_of p = omega (arith, ints, p.in_range.lam_within.from) in
     product_some (eps_of p * a) (series_sum (top_of a) (bottom_of (lam_of p) k) k) (product_some (eps_of p) a eps some) (series_some (top_of a) (bottom_of (lam_of p) k) k (scaled_screening k (lam_of p) lam))
 
 -- the permittivity and the screening length of a point of a rectangle are not 0
 pub eps_some : (r : Rectangle) (point : Point) → IsIn r point → 0 < point.eps
 eps_some r point inside =
-    let least : 0 < eps_of r.strongest = omega (arith, ints, r.strongest.in_range.eps_from) in
+    let least : 0 < eps_of r.strongest = omega (arith, ints, r.strongest.in_range.eps_within.from) in
     omega (arith, product_some (eps_of r.strongest) point.parts least inside.some, inside.eps_from)
 
 pub lam_some : (r : Rectangle) (point : Point) → IsIn r point → 0 < point.lam
 lam_some r point inside =
-    let least : 0 < lam_of r.weakest = omega (arith, ints, r.weakest.in_range.lam_from) in
+    let least : 0 < lam_of r.weakest = omega (arith, ints, r.weakest.in_range.lam_within.from) in
     omega (arith, product_some (lam_of r.weakest) point.parts least inside.some, inside.lam_from)
 
 -- a root is not 0

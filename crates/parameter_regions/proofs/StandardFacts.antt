@@ -10,7 +10,7 @@ use Rattle.parameter_regions.specs.Rectangles.{IsIn}
 
 -- from 4.9 to 5 nm at the permittivity 5.6
 abbrev pub less_screening : Params
-less_screening = with_lam (pos 49000) (omega (arith, ints)) (omega (arith, ints))
+less_screening = with_lam (pos 49000) (record { from = omega (arith, ints); to = omega (arith, ints) })
 
 abbrev pub narrow : Rectangle
 narrow = record {

@@ -5,6 +5,6 @@ pub mod laws;
 mod rectangles;
 mod regions;
 
+pub use model_params::Params;
 pub use rectangles::{Rectangle, are_corners, rectangle_between};
 pub use regions::region_problem;
-pub use model_params::Params;
