@@ -4,7 +4,6 @@ from __future__ import annotations
 
 import re
 from decimal import Decimal
-from typing import TypeVar
 
 from .answers import (
     Cell,
@@ -27,10 +26,9 @@ _MARK = re.compile(
 )
 _ENTRY = re.compile(rf"(?P<charges>[-0+]+|\.) (?:{_MARK.pattern})(?: energy (?P<low>-?\d+) (?P<high>-?\d+))?")
 _VERDICT = re.compile(r"(works)|(fails|undecided|budget|long) (\d+)")
+_CELL = re.compile(r"cell (\d+\.\d{4}) (\d+\.\d{4}) (.+)")
+_TILE = re.compile(r"tile (\d+\.\d{4}) (\d+\.\d{4}) (\d+\.\d{4}) (\d+\.\d{4}) (.+)")
 _SHARE = re.compile(r"([-0+]+|\.) (\d\.\d{9}) (\d\.\d{9})")
-
-T = TypeVar("T")
-
 
 class Lines:
     """The lines of a text, taken one after another."""
@@ -304,8 +302,8 @@ def domain_of(text: str) -> tuple[Cell, ...]:
     lines.next()
     cells = []
     while lines.peek() == "cell":
-        _, eps, lam, *answer = lines.next().split(" ")
-        cells.append(Cell(Decimal(eps), Decimal(lam), *_verdict(lines, " ".join(answer))))
+        eps, lam, *answer = lines.match(_CELL).groups()
+        cells.append(Cell(Decimal(eps), Decimal(lam), *_verdict(lines, answer[0])))
     lines.end()
     return tuple(cells)
 
@@ -317,10 +315,9 @@ def region_of(text: str) -> tuple[tuple[Tile, ...], int, int, int]:
     lines.next()
     tiles = []
     while lines.peek() == "tile":
-        _, *ends = lines.next().split(" ")
-        numbers = [Decimal(end) for end in ends[:4]]
-        verdict = _verdict(lines, " ".join(ends[4:]))
-        tiles.append(Tile((numbers[0], numbers[1]), (numbers[2], numbers[3]), *verdict))
+        *ends, answer = lines.match(_TILE).groups()
+        eps, far_eps, lam, far_lam = map(Decimal, ends)
+        tiles.append(Tile((eps, far_eps), (lam, far_lam), *_verdict(lines, answer)))
     works, fails, left = (lines.numbers(name, 1)[0] for name in ("works", "fails", "open"))
     lines.end()
     return tuple(tiles), works, fails, left
