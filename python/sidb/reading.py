@@ -4,6 +4,7 @@ from __future__ import annotations
 
 import re
 from decimal import Decimal
+from typing import TypeVar
 
 from .answers import (
     Cell,
@@ -120,10 +121,20 @@ def entry_of(lines: Lines) -> Entry:
     return Entry(charges_of(found["charges"]), mark_of(found), energy)
 
 
-def entries_of(lines: Lines) -> tuple[Entry, ...]:
-    """``entries E`` and the entry lines behind it."""
+def entries_of(lines: Lines, sites: int) -> tuple[Entry, ...]:
+    """``entries E`` and the entry lines behind it, each with a charge a site."""
     (count,) = lines.numbers("entries", 1)
-    return tuple(entry_of(lines) for _ in range(count))
+    return tuple(_sized(lines, entry_of(lines), sites) for _ in range(count))
+
+
+HasCharges = TypeVar("HasCharges", Entry, Share, LevelEntry)
+
+
+def _sized(lines: Lines, entry: HasCharges, sites: int) -> HasCharges:
+    """The entry of the line that was taken last, which has a charge a site."""
+    if len(entry.charges) != sites:
+        raise lines.bad()
+    return entry
 
 
 def ground_part(lines: Lines) -> tuple[Layout, int, tuple[Entry, ...]]:
@@ -139,7 +150,7 @@ def ground_part(lines: Lines) -> tuple[Layout, int, tuple[Entry, ...]]:
     if sites and len(sites) != count:
         raise lines.bad()
     (skipped,) = lines.numbers("skipped", 1)
-    entries = entries_of(lines)
+    entries = entries_of(lines, count)
     lines.end()
     return Layout(tuple(sites), tuple(fixed), lattice), skipped, entries
 
@@ -167,12 +178,13 @@ def occupation_of(text: str) -> tuple[int, int, tuple[Share, ...]]:
     lines = Lines(text)
     lines.next()
     (window,), (kt,) = lines.numbers("window", 1), lines.numbers("kt", 1)
-    lines.numbers("sites", 1)
+    (sites,) = lines.numbers("sites", 1)
     (count,) = lines.numbers("entries", 1)
     shares = []
     for _ in range(count):
         charges, least, greatest = lines.match(_SHARE).groups()
-        shares.append(Share(charges_of(charges), int(least.replace(".", "")), int(greatest.replace(".", ""))))
+        share = Share(charges_of(charges), int(least.replace(".", "")), int(greatest.replace(".", "")))
+        shares.append(_sized(lines, share, sites))
     lines.end()
     return window, kt, tuple(shares)
 
@@ -182,14 +194,14 @@ def range_of(text: str) -> tuple[Part, ...]:
     form_of(text, "sidb-range")
     lines = Lines(text)
     lines.next()
-    lines.numbers("sites", 1)
+    (sites,) = lines.numbers("sites", 1)
     (count,) = lines.numbers("parts", 1)
-    parts = tuple(_part_of(lines) for _ in range(count))
+    parts = tuple(_part_of(lines, sites) for _ in range(count))
     lines.end()
     return parts
 
 
-def _part_of(lines: Lines) -> Part:
+def _part_of(lines: Lines, sites: int) -> Part:
     words = lines.next().split(" ")
     if len(words) not in (4, 5) or words[0] != "part":
         raise lines.bad()
@@ -201,7 +213,7 @@ def _part_of(lines: Lines) -> Part:
     entries = []
     for _ in range(lines.number(words[4])):
         found = lines.match(re.compile(r"([-0+]+|\.) (certain|unresolved)"))
-        entries.append(LevelEntry(charges_of(found[1]), found[2] == "certain"))
+        entries.append(_sized(lines, LevelEntry(charges_of(found[1]), found[2] == "certain"), sites))
     return Part(first, last, tuple(entries))
 
 
@@ -247,8 +259,7 @@ def certificate_of(text: str) -> tuple[tuple[Entry, ...], int]:
     form_of(text, "sidb-certificate")
     lines = Lines(text)
     lines.next()
-    TableText(lines)
-    entries = entries_of(lines)
+    entries = entries_of(lines, TableText(lines).sites)
     lines.words("tokens", 0)
     if lines.lines[-2:] != ["end", ""]:
         raise BadAnswer("The program's certificate has no end.")
