@@ -27,10 +27,9 @@ _MARK = re.compile(
 )
 _ENTRY = re.compile(rf"(?P<charges>[-0+]+|\.) (?:{_MARK.pattern})(?: energy (?P<low>-?\d+) (?P<high>-?\d+))?")
 _VERDICT = re.compile(r"(works)|(fails|undecided|budget|long) (\d+)")
+_CELL = re.compile(r"cell (\d+\.\d{4}) (\d+\.\d{4}) (.+)")
+_TILE = re.compile(r"tile (\d+\.\d{4}) (\d+\.\d{4}) (\d+\.\d{4}) (\d+\.\d{4}) (.+)")
 _SHARE = re.compile(r"([-0+]+|\.) (\d\.\d{9}) (\d\.\d{9})")
-
-T = TypeVar("T")
-
 
 class Lines:
     """The lines of a text, taken one after another."""
@@ -122,10 +121,20 @@ def entry_of(lines: Lines) -> Entry:
     return Entry(charges_of(found["charges"]), mark_of(found), energy)
 
 
-def entries_of(lines: Lines) -> tuple[Entry, ...]:
-    """``entries E`` and the entry lines behind it."""
+def entries_of(lines: Lines, sites: int) -> tuple[Entry, ...]:
+    """``entries E`` and the entry lines behind it, each with a charge a site."""
     (count,) = lines.numbers("entries", 1)
-    return tuple(entry_of(lines) for _ in range(count))
+    return tuple(_sized(lines, entry_of(lines), sites) for _ in range(count))
+
+
+HasCharges = TypeVar("HasCharges", Entry, Share, LevelEntry)
+
+
+def _sized(lines: Lines, entry: HasCharges, sites: int) -> HasCharges:
+    """The entry of the line that was taken last, which has a charge a site."""
+    if len(entry.charges) != sites:
+        raise lines.bad()
+    return entry
 
 
 def ground_part(lines: Lines) -> tuple[Layout, int, tuple[Entry, ...]]:
@@ -141,7 +150,7 @@ def ground_part(lines: Lines) -> tuple[Layout, int, tuple[Entry, ...]]:
     if sites and len(sites) != count:
         raise lines.bad()
     (skipped,) = lines.numbers("skipped", 1)
-    entries = entries_of(lines)
+    entries = entries_of(lines, count)
     lines.end()
     return Layout(tuple(sites), tuple(fixed), lattice), skipped, entries
 
@@ -169,12 +178,13 @@ def occupation_of(text: str) -> tuple[int, int, tuple[Share, ...]]:
     lines = Lines(text)
     lines.next()
     (window,), (kt,) = lines.numbers("window", 1), lines.numbers("kt", 1)
-    lines.numbers("sites", 1)
+    (sites,) = lines.numbers("sites", 1)
     (count,) = lines.numbers("entries", 1)
     shares = []
     for _ in range(count):
         charges, least, greatest = lines.match(_SHARE).groups()
-        shares.append(Share(charges_of(charges), int(least.replace(".", "")), int(greatest.replace(".", ""))))
+        share = Share(charges_of(charges), int(least.replace(".", "")), int(greatest.replace(".", "")))
+        shares.append(_sized(lines, share, sites))
     lines.end()
     return window, kt, tuple(shares)
 
@@ -184,14 +194,14 @@ def range_of(text: str) -> tuple[Part, ...]:
     form_of(text, "sidb-range")
     lines = Lines(text)
     lines.next()
-    lines.numbers("sites", 1)
+    (sites,) = lines.numbers("sites", 1)
     (count,) = lines.numbers("parts", 1)
-    parts = tuple(_part_of(lines) for _ in range(count))
+    parts = tuple(_part_of(lines, sites) for _ in range(count))
     lines.end()
     return parts
 
 
-def _part_of(lines: Lines) -> Part:
+def _part_of(lines: Lines, sites: int) -> Part:
     words = lines.next().split(" ")
     if len(words) not in (4, 5) or words[0] != "part":
         raise lines.bad()
@@ -203,7 +213,7 @@ def _part_of(lines: Lines) -> Part:
     entries = []
     for _ in range(lines.number(words[4])):
         found = lines.match(re.compile(r"([-0+]+|\.) (certain|unresolved)"))
-        entries.append(LevelEntry(charges_of(found[1]), found[2] == "certain"))
+        entries.append(_sized(lines, LevelEntry(charges_of(found[1]), found[2] == "certain"), sites))
     return Part(first, last, tuple(entries))
 
 
@@ -249,8 +259,7 @@ def certificate_of(text: str) -> tuple[tuple[Entry, ...], int]:
     form_of(text, "sidb-certificate")
     lines = Lines(text)
     lines.next()
-    TableText(lines)
-    entries = entries_of(lines)
+    entries = entries_of(lines, TableText(lines).sites)
     lines.words("tokens", 0)
     if lines.lines[-2:] != ["end", ""]:
         raise BadAnswer("The program's certificate has no end.")
@@ -304,8 +313,8 @@ def domain_of(text: str) -> tuple[Cell, ...]:
     lines.next()
     cells = []
     while lines.peek() == "cell":
-        _, eps, lam, *answer = lines.next().split(" ")
-        cells.append(Cell(Decimal(eps), Decimal(lam), *_verdict(lines, " ".join(answer))))
+        eps, lam, *answer = lines.match(_CELL).groups()
+        cells.append(Cell(Decimal(eps), Decimal(lam), *_verdict(lines, answer[0])))
     lines.end()
     return tuple(cells)
 
@@ -317,10 +326,9 @@ def region_of(text: str) -> tuple[tuple[Tile, ...], int, int, int]:
     lines.next()
     tiles = []
     while lines.peek() == "tile":
-        _, *ends = lines.next().split(" ")
-        numbers = [Decimal(end) for end in ends[:4]]
-        verdict = _verdict(lines, " ".join(ends[4:]))
-        tiles.append(Tile((numbers[0], numbers[1]), (numbers[2], numbers[3]), *verdict))
+        *ends, answer = lines.match(_TILE).groups()
+        eps, far_eps, lam, far_lam = map(Decimal, ends)
+        tiles.append(Tile((eps, far_eps), (lam, far_lam), *_verdict(lines, answer)))
     works, fails, left = (lines.numbers(name, 1)[0] for name in ("works", "fails", "open"))
     lines.end()
     return tuple(tiles), works, fails, left

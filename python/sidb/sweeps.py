@@ -246,9 +246,12 @@ class _bar:
             self.tell = lambda done, whole: print(f"\r{title}: {done} of {whole}", end="", file=sys.stderr)
             self.close = lambda: print(file=sys.stderr)
             return
-        bar = tqdm(total=whole, desc=title, unit="points")
-        self.tell = lambda done, whole: bar.update(done - bar.n)
-        self.close = bar.close
+        bar: Any = tqdm(total=whole, desc=title, unit="points")
+
+        def tell(done: int, _whole: int) -> None:
+            bar.update(done - bar.n)
+
+        self.tell, self.close = tell, bar.close
 
     def __enter__(self) -> Progress:
         return self.tell

@@ -1,8 +1,8 @@
 """The exact symmetries of a lattice, and the easiest of a layout's images under them.
 
 A layout and its image have the same distances, so the same classes, spans and energies: the answer is the same list,
-permuted. But sites are numbered in row order, and by this order goes the search: of a Y-shaped gate the node count
-is 16 times smaller with its arms on top than upside down. So where the limit refuses a layout, it may answer its image.
+permuted. But sites are numbered in row order, and by this order goes the search, so that the node count is another:
+a dense part is easier where it comes first. So where the limit refuses a layout, it may answer its image.
 """
 
 from __future__ import annotations

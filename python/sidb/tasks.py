@@ -16,6 +16,7 @@ from . import reading
 from .answers import (
     CertificateAnswer,
     DomainAnswer,
+    Entry,
     GenAnswer,
     GroundAnswer,
     OccupationAnswer,
@@ -161,11 +162,16 @@ def truth(gate: Gate, **settings: Unpack[Settings]) -> TruthAnswer:
     the function wants."""
     run = _gate_call("truth", gate, settings).run("sidb-truth")
     patterns, verdict, first = reading.truth_of(run.text)
-    made = (
-        Pattern(number, wants, said, entries, gate.layout_of(number), gate.numbers_of(number))
-        for number, wants, said, entries in patterns
-    )
-    return TruthAnswer(gate, tuple(made), verdict, first, run)
+    if [number for number, *_ in patterns] != list(range(gate.patterns)):
+        raise BadAnswer("The program answered for other patterns than those of the gate.")
+    return TruthAnswer(gate, tuple(_pattern(gate, *pattern) for pattern in patterns), verdict, first, run)
+
+
+def _pattern(gate: Gate, number: int, wants: int, verdict: str, entries: tuple[Entry, ...]) -> Pattern:
+    numbers = gate.numbers_of(number)
+    if any(len(entry.charges) != len(numbers) for entry in entries):
+        raise BadAnswer(f"The program answered for another number of sites under pattern {number}.")
+    return Pattern(number, wants, verdict, entries, gate.layout_of(number), numbers)
 
 
 def domain(gate: Gate, grid: Grid, **settings: Unpack[Settings]) -> DomainAnswer:

@@ -6,7 +6,7 @@ from itertools import combinations
 
 import pytest
 import sidb
-from conftest import EXAMPLES, sites
+from conftest import sites
 from sidb import symmetry
 from sidb.symmetry import Symmetry, easiest, flipped, mirrored, turned
 
@@ -96,18 +96,19 @@ def test_easiest_image_of_a_gate(inverter: sidb.Gate) -> None:
         inverter.truth(limit=4)
 
 
-def y_shape(arms: int, stem: int) -> sidb.Layout:
-    """A gate of a Y's shape with its arms on top: so many pairs in each arm and in its stem, with a dot at each end."""
-    places = [(22, 7, 0), (22, 9 + 4 * stem, 0)]
-    for k in range(arms):
-        places += [(18 - 6 * k, 6 - 2 * k, 0), (16 - 6 * k, 5 - 2 * k, 0), (26 + 6 * k, 6 - 2 * k, 0), (28 + 6 * k, 5 - 2 * k, 0)]
-    places += [(18 - 6 * arms, 6 - 2 * arms, 0), (26 + 6 * arms, 6 - 2 * arms, 0)]
-    places += [place for k in range(stem) for place in ((22, 9 + 4 * k, 0), (22, 10 + 4 * k, 0))]
-    return sidb.Layout(places)  # type: ignore[arg-type]
-
-
-def test_y_shape_of_three_pairs_is_the_example() -> None:
-    assert y_shape(3, 3).sites == sidb.read_sqd(EXAMPLES / "y_gate.sqd").sites
+def test_image_is_answered_where_the_layout_is_refused() -> None:
+    """A wire of 16 dots with a row of 8 neighbours at its right end: the row is easier where it comes first."""
+    places = [(8 * (k // 2) + 2 * (k % 2), 0, 0) for k in range(16)] + [(70 + k, 0, 0) for k in range(8)]
+    layout = sidb.Layout(places, name="row at the right")  # type: ignore[arg-type]
+    with pytest.raises(sidb.BudgetFault):
+        layout.ground(limit=10_000)
+    found = easiest(layout, limit=10_000, exact=True)
+    assert found.symmetry.columns == -1 and found.images == 2
+    own = layout.ground(limit=1_000_000)
+    assert [(e.charges, e.energy) for e in found.answer.entries] == [(e.charges, e.energy) for e in own.entries]
+    assert mirrored(layout).ground(limit=found.nodes).entries
+    with pytest.raises(sidb.BudgetFault):
+        mirrored(layout).ground(limit=found.nodes - 1)
 
 
 def test_no_image_within_the_limit() -> None:
