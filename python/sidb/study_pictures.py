@@ -1,5 +1,5 @@
-"""Pictures of the studies. Verdicts differ by shade and by shape, so that they read in greyscale and by the
-colour-blind; a legend names each. Places stand as in SiQAD: columns to the right, dimer rows downwards.
+"""Pictures of the studies. Verdicts look as in ``pictures``, and differ by shade and by shape or hatch, so that they
+read in grey and by the colour-blind; a legend names each. Columns go to the right, dimer rows downward, in Å.
 """
 
 from __future__ import annotations
@@ -8,124 +8,116 @@ from collections.abc import Iterable, Mapping, Sequence
 from pathlib import Path
 from typing import TYPE_CHECKING, Any, NamedTuple
 
+import matplotlib
+from matplotlib.figure import Figure
+from matplotlib.lines import Line2D
+from matplotlib.patches import Patch, Rectangle
+
+from . import pictures
 from .layout import Grid, Layout, Place
-from .pictures import save
 from .trials import worst_of
 
 if TYPE_CHECKING:
-    from .heat import Temperatures
+    from .heat import Temperatures, WarmPattern
     from .level_studies import Domain3, Fit, Levels
     from .robustness import Defects, Displacements
 
 
 class Style(NamedTuple):
-    """How something is shown: its colour, the shape of a point, the hatch of a face, and its words."""
+    """How something is shown: the colour and the hatch of a face, the shape of a point, and its words."""
 
     colour: str
-    shape: str
     hatch: str
+    shape: str
     words: str
 
 
-#: Verdicts: from light to dark as they are worse.
+_SHAPES = {"works": "o", "fails": "X", "undecided": "^", "budget": "s", "long": "D", "missing": "p"}
+
+#: Verdicts on a gate, as all pictures have them.
 VERDICTS = {
-    "works": Style("#9fd3f0", "o", "", "works"),
-    "long": Style("#e8d9a0", "D", "oo", "too many entries"),
-    "budget": Style("#d8d8d8", "s", "++", "over the limit"),
-    "undecided": Style("#f0b840", "^", "//", "undecided"),
-    "missing": Style("#ffffff", "p", "..", "no answer"),
-    "fails": Style("#8c2d04", "X", "xx", "fails"),
+    verdict: Style(colour, hatch, _SHAPES[verdict], words)
+    for verdict, (colour, hatch, words) in pictures.VERDICT_STYLE.items()
 }
 
 #: What an observed charge list is at a point.
 FITS = {
-    "certain": Style("#9fd3f0", "o", "", "a certain ground state"),
-    "possible": Style("#f0b840", "^", "//", "a possible ground state"),
-    "open": Style("#d8d8d8", "s", "++", "not decided"),
-    "excluded": Style("#8c2d04", "X", "xx", "excluded by proof"),
+    "certain": VERDICTS["works"]._replace(words="a certain ground state"),
+    "possible": Style("#8fb8dd", "\\\\\\", "^", "a possible one"),
+    "open": VERDICTS["undecided"]._replace(words="not decided"),
+    "excluded": VERDICTS["fails"]._replace(words="excluded by proof"),
 }
 
 _LINES = ("-", "--", "-.", ":")
-_SHAPES = ("o", "s", "^", "D")
+_LINE_SHAPES = ("o", "s", "^", "D")
+_MARGIN = 8.0
 
 
-def _figure(width: float, height: float) -> tuple[Any, Any]:
-    from matplotlib.figure import Figure
+def _figure(width: float, height: float) -> tuple[Figure, Any]:
+    with matplotlib.rc_context({"font.size": 8.0}):
+        figure = Figure(figsize=(width, height))
+        return figure, figure.subplots()
 
-    figure = Figure(figsize=(width, height), layout="constrained")
-    return figure, figure.subplots()
 
-
-def _finished(figure: Any, path: str | Path | None) -> Any:
+def _finished(figure: Figure, path: str | Path | None) -> Figure:
     if path is not None:
-        save(figure, path)
+        pictures.save(figure, path)
     return figure
 
 
 def _titled(ax: Any, title: str) -> None:
-    ax.set_title(title, fontsize=9, parse_math=False, loc="left")
+    ax.set_title(title, fontsize=8, parse_math=False)
 
 
-def _nm(layout: Layout, places: Iterable[Place]) -> tuple[list[float], list[float]]:
+def _at(layout: Layout, places: Iterable[Place]) -> tuple[list[float], list[float]]:
+    """Where places lie, in Å."""
     points = [layout.lattice.position(place) for place in places]
-    return [x / 1000 for x, _ in points], [y / 1000 for _, y in points]
+    return [x / 100 for x, _ in points], [y / 100 for _, y in points]
 
 
-def _place_axes(layout: Layout, places: Sequence[Place], width: float) -> tuple[Any, Any]:
-    """Axes in nm over these places, columns to the right and rows downwards."""
-    xs, ys = _nm(layout, places)
-    across, down = max(xs) - min(xs) + 2, max(ys) - min(ys) + 2
-    figure, ax = _figure(width, min(max(width * down / across + 0.9, 2.2), 9))
-    ax.set_aspect("equal")
-    ax.set_xlim(min(xs) - 0.8, max(xs) + 0.8)
-    ax.set_ylim(max(ys) + 0.8, min(ys) - 0.8)
-    ax.set_xlabel("nm", fontsize=8)
-    ax.tick_params(labelsize=7)
+def _map_axes(layout: Layout, places: Sequence[Place], width: float, title: str) -> tuple[Figure, Any]:
+    """The layout with its lattice, so that all of these places are in the picture."""
+    xs, ys = _at(layout, [*places, *layout.sites, *(fix.place for fix in layout.fixed)])
+    left, right, top, bottom = min(xs) - _MARGIN, max(xs) + _MARGIN, min(ys) - _MARGIN, max(ys) + _MARGIN
+    figure, ax = _figure(width, min(max(width * (bottom - top) / (right - left), 1.2), 10) + 0.5)
+    pictures.draw(layout, ax=ax, title="", legend=False)
+    ax.set_xlim(left, right)
+    ax.set_ylim(bottom, top)
+    _titled(ax, title)
     return figure, ax
 
 
-def _rows_of_dimers(ax: Any, layout: Layout, places: Sequence[Place]) -> None:
-    """A faint line for each dimer row that the places reach."""
-    (ax_, _, _, by, _, cy) = layout.lattice
-    for m in range(min(p.m for p in places), max(p.m for p in places) + 1):
-        for y in (m * by, m * by + cy):
-            ax.axhline(y / 1000, color="#dddddd", linewidth=0.5, zorder=0)
-
-
-def _points(ax: Any, layout: Layout, places: Mapping[Place, str], size: float, edge: float, zorder: int = 2) -> None:
-    """A point at each place, by its verdict."""
+def _points(ax: Any, layout: Layout, verdicts: Mapping[Place, str], size: float, edge: float, order: int) -> None:
+    """A point at each place, by its verdict; ``size`` and ``edge`` in points."""
     for verdict, style in VERDICTS.items():
-        xs, ys = _nm(layout, (place for place, said in places.items() if said == verdict))
+        xs, ys = _at(layout, (place for place, said in verdicts.items() if said == verdict))
         if xs:
-            ax.scatter(
-                xs, ys, s=size, c=style.colour, marker=style.shape, edgecolors="black", linewidths=edge, zorder=zorder
-            )
+            ax.plot(xs, ys, **_marker(style, size, edge), zorder=order)
 
 
-def _fixed(ax: Any, layout: Layout) -> None:
-    for fix in layout.fixed:
-        (x,), (y,) = _nm(layout, [fix.place])
-        ax.text(x, y, f"{fix.charge:+d}".replace("-", "−"), ha="center", va="center", fontsize=7, zorder=5,
-                bbox={"boxstyle": "square,pad=0.15", "facecolor": "white", "edgecolor": "black", "linewidth": 0.8})  # fmt: skip
+def _marker(style: Style, size: float, edge: float) -> dict[str, Any]:
+    wide = 1.25 if style.shape == "X" else 1.0
+    return {
+        "linestyle": "none", "marker": style.shape, "markersize": size * wide, "markerfacecolor": style.colour,
+        "markeredgecolor": "black", "markeredgewidth": edge,
+    }  # fmt: skip
 
 
-def _legend(ax: Any, styles: Iterable[Style], extra: Sequence[Any] = ()) -> None:
-    from matplotlib.lines import Line2D
-
-    shown = [
-        Line2D([], [], linestyle="", marker=style.shape, markerfacecolor=style.colour, markeredgecolor="black",
-               markeredgewidth=0.6, markersize=6, label=style.words)
-        for style in styles
-    ]  # fmt: skip
-    ax.legend(handles=[*shown, *extra], fontsize=7, loc="upper center", bbox_to_anchor=(0.5, -0.1), ncols=4, frameon=False)
-
-
-def _seen(verdicts: Iterable[str]) -> list[Style]:
+def _legend(ax: Any, verdicts: Iterable[str], *more: Line2D) -> None:
     seen = set(verdicts)
-    return [style for verdict, style in VERDICTS.items() if verdict in seen]
+    shown = [
+        Line2D([], [], label=style.words, **_marker(style, 6, 0.6)) for verdict, style in VERDICTS.items() if verdict in seen
+    ]
+    _beside(ax, [*shown, *more])
 
 
-def draw_displacements(study: Displacements, path: str | Path | None = None, width: float = 6.3) -> Any:
+def _beside(ax: Any, handles: Sequence[Any]) -> None:
+    ax.legend(
+        handles=handles, fontsize=7, loc="upper left", bbox_to_anchor=(1.0, 1.0), frameon=False, borderaxespad=0.3
+    )  # fmt: skip
+
+
+def draw_displacements(study: Displacements, path: str | Path | None = None, width: float = 6.0) -> Figure:
     """Each dot by its worst verdict, with its number; and small, each place that was tried by the worst there."""
     layout = study.gate.layout
     tried: dict[Place, str] = {}
@@ -133,125 +125,114 @@ def draw_displacements(study: Displacements, path: str | Path | None = None, wid
         (move,) = trial.moves
         tried[move.place] = worst_of([tried.get(move.place, "works"), trial.outcome.verdict])
     worst = {layout.sites[site]: verdict for site, verdict in study.worst().items()}
-    places = [*layout.sites, *(fix.place for fix in layout.fixed), *tried]
-    figure, ax = _place_axes(layout, places, width)
-    _rows_of_dimers(ax, layout, places)
-    _points(ax, layout, tried, 9, 0.3)
-    _points(ax, layout, worst, 70, 1.2, 4)
-    still = [place for place in layout.sites if place not in worst]
-    ax.scatter(*_nm(layout, still), s=40, facecolors="white", edgecolors="black", linewidths=0.8, zorder=3)
+    title = "Large: a dot by its worst verdict. Small: a place that was tried."
+    figure, ax = _map_axes(layout, list(tried), width, title)
+    _points(ax, layout, tried, 2.6, 0.3, 4)
+    _points(ax, layout, worst, 7.5, 1.0, 6)
     for number, place in enumerate(layout.sites):
-        (x,), (y,) = _nm(layout, [place])
-        ax.annotate(str(number), (x, y), xytext=(6, 5), textcoords="offset points", fontsize=6, color="#333333")
-    _fixed(ax, layout)
-    _legend(ax, _seen([*tried.values(), *worst.values()]))
-    _titled(ax, f"Large: a dot, by its worst verdict. Small: a place that was tried. {study.tally.in_words()}")
+        (x,), (y,) = _at(layout, [place])
+        ax.annotate(str(number), (x, y), (6, 4), textcoords="offset points", fontsize=6, zorder=7)
+    _legend(ax, [*tried.values(), *worst.values()])
     return _finished(figure, path)
 
 
-def draw_defects(study: Defects, path: str | Path | None = None, width: float = 6.3) -> Any:
-    """A map of the places of the charge by verdict, and the dots as rings."""
+def draw_defects(study: Defects, path: str | Path | None = None, width: float = 6.0) -> Figure:
+    """A map of the places of the charge by verdict, with the dots in grey."""
     layout = study.gate.layout
     tried = {trial.place: trial.outcome.verdict for trial in study.trials}
-    places = [*layout.sites, *(fix.place for fix in layout.fixed), *tried]
-    figure, ax = _place_axes(layout, places, width)
-    _points(ax, layout, tried, max(4.0, min(30.0, 12000 / max(len(tried), 1))), 0.2)
-    ax.scatter(*_nm(layout, layout.sites), s=26, facecolors="white", edgecolors="black", linewidths=1.3, zorder=4)
-    _fixed(ax, layout)
-    from matplotlib.lines import Line2D
-
-    ring = Line2D([], [], linestyle="", marker="o", markerfacecolor="white", markeredgecolor="black", label="a dot")
-    _legend(ax, _seen(tried.values()), [ring])
-    _titled(ax, f"A fixed charge of {study.charge:+d} at each place. {study.tally.in_words()}")
+    title = f"The gate with a fixed charge of {study.charge:+d} at each place".replace("-", "−")
+    figure, ax = _map_axes(layout, list(tried), width, title)
+    _points(ax, layout, tried, 2.4 if len(tried) > 400 else 4.5, 0.25, 2)
+    dot = Line2D([], [], linestyle="none", marker="o", markerfacecolor="#c8c8c8", markeredgecolor="#444444", label="dot")
+    _legend(ax, tried.values(), dot)
     return _finished(figure, path)
 
 
-def _grid_axes(grid: Grid, width: float) -> tuple[Any, Any]:
-    """Axes with a cell for each point: permittivity to the right, screening length upwards."""
+def _grid_axes(grid: Grid, width: float, title: str) -> tuple[Figure, Any]:
+    """Axes with a cell for each point: permittivity to the right, screening length upward."""
     across, up = grid.eps.count, grid.lam.count
-    figure, ax = _figure(width, min(max(width * up / max(across, 1) * 0.45 + 1.1, 2.2), 6))
+    figure, ax = _figure(width, min(max(width * 0.5 * up / across, 1.2), 5) + 0.5)
     ax.set_xlim(-0.5, across - 0.5)
     ax.set_ylim(-0.5, up - 0.5)
     for axis, values in ((ax.xaxis, grid.eps.values()), (ax.yaxis, grid.lam.values())):
-        every = -(-len(values) // 12)
-        axis.set_ticks(range(0, len(values), every), [f"{value:g}" for value in values[::every]], fontsize=7)
-    ax.set_xlabel("relative permittivity", fontsize=8)
-    ax.set_ylabel("screening length in nm", fontsize=8)
+        every = -(-len(values) // 10)
+        axis.set_ticks(range(0, len(values), every), [f"{value:f}" for value in values[::every]], fontsize=7)
+    ax.set_xlabel("relative permittivity")
+    ax.set_ylabel("screening length (nm)")
+    _titled(ax, title)
     return figure, ax
 
 
-def _bar(ax: Any, left: float, right: float, bottom: float, height: float, style: Style) -> None:
-    from matplotlib.patches import Rectangle
-
-    ax.add_patch(
-        Rectangle((left, bottom), right - left, height, facecolor=style.colour, hatch=style.hatch, edgecolor="black",
-                  linewidth=0.3)
-    )  # fmt: skip
+def _face(ax: Any, left: float, right: float, low: float, high: float, style: Style) -> None:
+    face = Rectangle(
+        (left, low), right - left, high - low, facecolor=style.colour, hatch=style.hatch, edgecolor="#555555", linewidth=0.3
+    )
+    ax.add_patch(face)
 
 
 def _faces(ax: Any, styles: Iterable[Style]) -> None:
-    from matplotlib.patches import Patch
-
-    shown = [Patch(facecolor=s.colour, hatch=s.hatch, edgecolor="black", linewidth=0.4, label=s.words) for s in styles]
-    ax.legend(handles=shown, fontsize=7, loc="upper center", bbox_to_anchor=(0.5, -0.2), ncols=4, frameon=False)
+    _beside(ax, [Patch(facecolor=s.colour, hatch=s.hatch, edgecolor="#555555", linewidth=0.5, label=s.words) for s in styles])
 
 
-def draw_fit(study: Fit, path: str | Path | None = None, width: float = 6.3) -> Any:
-    """A cell for each point; in small grids with the levels at which the list is an entry, in V."""
-    figure, ax = _grid_axes(study.grid, width)
+def draw_fit(study: Fit, path: str | Path | None = None, width: float = 4.6) -> Figure:
+    """A cell for each point; in small grids with the levels (V) between which the list is an entry."""
+    figure, ax = _grid_axes(study.grid, width, f"{study.observed} as a ground state at some level")
     for number, point in enumerate(study.points):
         i, j = divmod(number, study.grid.lam.count)
-        _bar(ax, i - 0.5, i + 0.5, j - 0.5, 1, FITS[point.state])
+        _face(ax, i - 0.5, i + 0.5, j - 0.5, j + 0.5, FITS[point.state])
         if study.grid.eps.count <= 6 and point.levels:
-            ends = point.levels[0].first, point.levels[-1].last
-            said = f"{ends[0] / 1e12:.3f}\n{ends[1] / 1e12:.3f} V".replace("-", "−")
-            ax.text(i, j, said, ha="center", va="center", fontsize=6, bbox={"facecolor": "white", "edgecolor": "none", "pad": 1})
+            first, last = point.levels[0].first / 1e12, point.levels[-1].last / 1e12
+            said = f"{first:.3f}\n{last:.3f}".replace("-", "−")
+            box = {"facecolor": "white", "edgecolor": "none", "pad": 1}
+            ax.text(i, j, said, ha="center", va="center", fontsize=6, bbox=box)
     seen = {point.state for point in study.points}
     _faces(ax, [style for state, style in FITS.items() if state in seen])
-    _titled(ax, f"Where {study.observed} is a ground state at some level mu_minus")
     return _finished(figure, path)
 
 
-def draw_domain3(study: Domain3, path: str | Path | None = None, width: float = 6.3) -> Any:
-    """In each cell a bar over the levels, the lowest mu_minus at its left end."""
-    figure, ax = _grid_axes(study.grid, width)
+def draw_domain3(study: Domain3, path: str | Path | None = None, width: float = 4.6) -> Figure:
+    """In each cell a bar over the levels, the lowest mu_minus at its left end. A part too thin to see is left out."""
+    low, high = study.depths[1], study.depths[0]
+    figure, ax = _grid_axes(study.grid, width, f"Each bar: mu_minus from −{low} V to −{high} V")
     for number, point in enumerate(study.points):
         i, j = divmod(number, study.grid.lam.count)
         first, count = point.parts[0].first, point.levels
-        for part in point.parts:
+        for part in _wide(point.parts):
             ends = [i - 0.45 + 0.9 * (level - first) / count for level in (part.first, part.last + 1)]
-            if ends[1] - ends[0] > 1e-4:
-                _bar(ax, ends[0], ends[1], j - 0.3, 0.6, VERDICTS[part.what])
-    _faces(ax, _seen(part.what for point in study.points for part in _wide(point.parts)))
-    low, high = study.depths[1], study.depths[0]
-    _titled(ax, f"Each bar: mu_minus from −{low} V (left) to −{high} V (right)")
+            _face(ax, ends[0], ends[1], j - 0.3, j + 0.3, VERDICTS[part.what])
+    seen = {part.what for point in study.points for part in _wide(point.parts)}
+    _faces(ax, [style for verdict, style in VERDICTS.items() if verdict in seen])
     return _finished(figure, path)
 
 
-def _wide(parts: Sequence[Levels]) -> Iterable[Levels]:
+def _wide(parts: Sequence[Levels]) -> list[Levels]:
     """The parts that are wide enough to be seen."""
     count = sum(part.count for part in parts)
-    return (part for part in parts if part.count * 0.9 > count * 1e-4)
+    return [part for part in parts if part.count * 2000 > count]
 
 
-def draw_temperatures(study: Temperatures, path: str | Path | None = None, width: float = 6.3) -> Any:
-    """The share of the right entries over kT, a line for each pattern; enclosures are thinner than the lines."""
-    figure, ax = _figure(width, width * 0.42)
+def draw_temperatures(study: Temperatures, path: str | Path | None = None, width: float = 4.6) -> Figure:
+    """The share of the right entries over kT, a line for each pattern; an enclosure is thinner than its line."""
+    title = f"Among the entries of a window of {study.window} eV"
+    figure, ax = _figure(width, width * 0.5)
+    _titled(ax, title)
     for number, pattern in enumerate(study.patterns):
-        kts = [float(share.kt) * 1000 for share in pattern.shares]
-        middles = [(share.least + share.greatest) / 2e9 for share in pattern.shares]
-        label = f"inputs {study.gate.bits_of(pattern.pattern)}"
-        ax.plot(
-            kts, middles, _LINES[number % 4], marker=_SHAPES[number % 4], markersize=5 - number * 0.7, label=label,
-            color=str(0.55 - 0.18 * (number % 4)), linewidth=1.2,
-        )  # fmt: skip
-        for share, kt in zip(pattern.shares, kts):
-            ax.vlines(kt, share.least / 1e9, share.greatest / 1e9, color="black", linewidth=0.8)
-    ax.axhline(float(study.at_least), color="#8c2d04", linewidth=0.9, linestyle=(0, (5, 2)), label=f"{study.at_least}")
+        _shares(ax, pattern, f"inputs {study.gate.bits_of(pattern.pattern)}", number)
+    ax.axhline(float(study.at_least), color="#7a1f00", linewidth=0.9, linestyle=(0, (5, 2)), label=f"{study.at_least}")
     ax.set_ylim(-0.03, 1.05)
-    ax.set_xlabel("kT in meV (25.7 meV is 298 K)", fontsize=8)
-    ax.set_ylabel("share of right entries", fontsize=8)
+    ax.set_xlabel("kT (meV); 25.7 meV is 298 K")
+    ax.set_ylabel("share of the right entries")
     ax.tick_params(labelsize=7)
-    ax.legend(fontsize=7, frameon=False)
-    _titled(ax, f"Among the entries of a window of {study.window} eV")
+    _beside(ax, ax.get_legend_handles_labels()[0])
     return _finished(figure, path)
+
+
+def _shares(ax: Any, pattern: WarmPattern, label: str, number: int) -> None:
+    kts = [float(share.kt) * 1000 for share in pattern.shares]
+    middles = [(share.least + share.greatest) / 2e9 for share in pattern.shares]
+    ax.plot(
+        kts, middles, _LINES[number % 4], marker=_LINE_SHAPES[number % 4], markersize=6 - number % 4, label=label,
+        color=("#06294a", "#0b6fa8", "#8a5a00", "#777777")[number % 4], linewidth=1.1,
+    )  # fmt: skip
+    ends = [share.least / 1e9 for share in pattern.shares], [share.greatest / 1e9 for share in pattern.shares]
+    ax.vlines(kts, *ends, color="black", linewidth=0.8)
