@@ -206,12 +206,12 @@ class _Warm:
         if fault:
             return WarmPattern(reader.pattern, shares, Holds(None, None), fault)
         try:
-            return WarmPattern(reader.pattern, shares, self._holds(reader, known))
+            return WarmPattern(reader.pattern, shares, self.holds(reader, known))
         except SidbError as met:
             return WarmPattern(reader.pattern, shares, Holds(None, None), str(met))
 
-    def _holds(self, reader: Reader, known: dict[Decimal, OccupationAnswer]) -> Holds:
-        asked = _Asked(self, reader, dict(known))
+    def holds(self, reader: Reader, known: dict[Decimal, OccupationAnswer]) -> Holds:
+        asked = _Asked(self, reader, known)
         first, *later = sorted(known)
         if not asked.is_enough(first):
             return Holds(None, first if asked.is_lost(first) else None)
