@@ -152,7 +152,7 @@ def test_a_point_that_fails_touches_no_other(inverter: sidb.Gate) -> None:
     for trial in found.singles:
         by_column.setdefault(trial.moves[0].place.n, set()).add(trial.outcome.verdict)
     assert by_column[5001] == {"missing"} and "missing" not in by_column[4999] | by_column[5000]
-    assert len(found.faults()) == 3 or len(found.faults()) == 1
+    assert 1 <= len(found.faults()) <= 3
     assert all("range" in fault for fault in found.faults())
 
 
@@ -215,14 +215,14 @@ def test_fit_says_where_a_point_has_no_answer() -> None:
 
 
 def test_levels_at_which_the_inverter_works(inverter: sidb.Gate) -> None:
-    """The dot of the output that is nearer to the input is neutral, with 0.287141 + 0.070403 V against it: below
-    -0.357544 V it would be negative, all three dots are, and no bit is read."""
+    """The dot of the output that is nearer to the input is neutral, with 0.2871408 + 0.0703977 V against it: below
+    -0.3575385 V it would be negative, all three dots are, and no bit is read."""
     found = studies.domain3(inverter, sidb.Grid.of(("5.6", 1, 1), (5, 1, 1)))
     (point,) = found.points
     wide = [part for part in point.parts if part.count > 1000]
     assert [(part.what, part.pattern) for part in wide] == [("fails", 0), ("works", None)]
     assert wide[0].first == -400_000_000_000 and wide[1].last == -200_000_000_000
-    assert abs(wide[1].first + 357_544_000_000) < 1_000_000
+    assert abs(wide[1].first + 357_538_500_000) < 1_000_000
     assert point.levels == 200_000_000_001
     for one, two in zip(point.parts, point.parts[1:]):
         assert two.first == one.last + 1
