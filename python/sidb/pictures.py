@@ -9,7 +9,7 @@ from __future__ import annotations
 import io
 import math
 from collections.abc import Iterable, Mapping, Sequence
-from dataclasses import dataclass, field
+from dataclasses import dataclass, field, replace
 from pathlib import Path as FilePath
 from typing import Any
 
@@ -153,12 +153,14 @@ def draw(
     marks: bool = True,
     legend: bool = True,
     colours: Mapping[Place, str] | None = None,
+    frame: tuple[float, float, float, float] | None = None,
 ) -> Figure:
     """Draws a layout: its lattice, dots with their charges in one entry, fixed charges, and what decides.
 
     Of a gate the inputs and outputs are named. ``colours`` fills dots, by place, in place of their charges' colours.
+    ``frame``: left, right, top and bottom of the picture in Å; None for all dots with a margin.
     """
-    scene = scene_of(subject, entry, title, colours or {})
+    scene = replace(scene_of(subject, entry, title, colours or {}), bounds=frame)
     if ax is None:
         left, right, top, bottom = scene.frame()
         width = min(max((right - left) / 22, 3.2), 9.0)
