@@ -113,7 +113,7 @@ def _finished(ax: Axes, path: str | FilePath | None) -> Figure:
 @dataclass(frozen=True)
 class Scene:
     """What a picture of a layout shows: charges and colours by place, the mark of the entry, labels beside places,
-    and room for all of ``whole``, where the layout is a part of that."""
+    and room for all of ``whole``, where the layout is a part of that; or the frame ``bounds``."""
 
     layout: Layout
     title: str
@@ -122,6 +122,7 @@ class Scene:
     mark: Mark | None = None
     labels: Mapping[Place, str] = field(default_factory=dict)
     whole: Layout | None = None
+    bounds: tuple[float, float, float, float] | None = None
 
     def positions(self) -> list[tuple[float, float]]:
         """Of all dots and fixed charges, in Å."""
@@ -136,6 +137,8 @@ class Scene:
 
     def frame(self) -> tuple[float, float, float, float]:
         """Left, right, top and bottom, in Å, with a margin, and with room for labels; not too flat to look at."""
+        if self.bounds is not None:
+            return self.bounds
         xs, ys = zip(*self.positions())
         left, right = min(xs) - 12, max(xs) + 12
         right += (right - left) * 0.12 if self.labels else 0
