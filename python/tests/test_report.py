@@ -6,6 +6,7 @@ import hashlib
 import os
 import subprocess
 from dataclasses import dataclass, field
+from decimal import Decimal
 from html.parser import HTMLParser
 from pathlib import Path
 
@@ -94,21 +95,23 @@ def expected_rows(text: str) -> list[list[str]]:
             front, entry = [f"{int(words[1]):02b}", words[3], words[4]], 0
         elif line[:1] in ("-", "0"):
             read = {"-0": "0", "0-": "1"}.get(words[0][-2:], "no bit")
-            mark = sidb.reading.mark_of(words[1:]).in_words() if hasattr(sidb.reading, "mark_of") else None
-            rows.append([front[0], front[1], read, front[2], str(entry), words[0], mark or rows_mark(words[1:])])
+            rows.append([front[0], front[1], read, front[2], str(entry), words[0], mark_in_words(words[1:])])
             entry += 1
     return rows
 
 
-def rows_mark(words: list[str]) -> str:
+def mark_in_words(words: list[str]) -> str:
     """What the page says of a mark."""
     if words == ["certain"]:
         return "certain: a ground state whatever the potentials in their spans are"
-    assert words[0] == "unresolved"
-    ends = [f"{int(word) / 10**12:.12f}" for word in words[-2:]]
-    return {
-        "rival": f"unresolved: entry {words[2]} may lie lower (difference between {ends[0]} and {ends[1]} eV)",
-    }[words[1]]
+    kind, *named, least, greatest = words[1:]
+    between = "between {:.12f} and {:.12f}".format(*(Decimal(end).scaleb(-12) for end in (least, greatest)))
+    if kind == "population":
+        return f"unresolved: the test {named[1]} of site {named[0]} may fail (slack {between} V)"
+    if kind == "hop":
+        hop = f"an electron from site {named[0]} to site {named[1]}"
+        return f"unresolved: the hop of {hop} may lower the energy (change {between} eV)"
+    return f"unresolved: entry {named[0]} may lie lower (difference {between} eV)"
 
 
 def test_a_page_has_no_script_and_loads_nothing(inverter_page: Page) -> None:
