@@ -62,7 +62,7 @@ the_same_twice are = let area : 12 ≡ 6 = are.area in omega (arith, area)
 abbrev says_works : Rectangle → CellAnswer → Type 0
 says_works r a = a ≡ Works
 
-first_answer : List Tile → CellAnswer
+abbrev first_answer : List Tile → CellAnswer
 first_answer [] = Works
 first_answer (t ∷ ts) = t.answer
 
