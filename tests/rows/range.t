@@ -78,6 +78,18 @@ At the level of the table that is what its ground list says, with what decides.
   0- unresolved population 0 below-minus -1 1
   end
 
+So it is at each level, around each cut and at both ends: a table with that level, and the same gap, has the lists of
+its part, and the same of them certain.
+
+  $ sidb --form table --task range --range 0:0.000000000004 < pair.table > pair
+  $ part_of() { awk -v level=$2 '/^part /{ inside = $2 <= level && level <= $3; next } inside && !/^end/' $1; }
+  $ ground_at() { sed "s/^mu .*/mu $2 $(($2 - $3))/" $1.table | sidb --form table |
+  >   sed -n '/^[-0+]/s/\( unresolved\).*/\1/p; / certain$/p'; }
+  $ for level in -4 -3 -2 -1 0; do
+  >   ground_at pair $level 590000000000 > ground
+  >   [ -s ground ] && part_of pair $level | cmp - ground
+  > done
+
 More than 256 parts. Eight sites in base 2 stand beside a fixed charge of -1, each at a potential of its own between 0
 and 10^9, and the pairs of sites have the potentials 1, 2, 4 and so on, up to 2^27. So a neutral site, whose potential
 is at least -10^9 less those of its pairs with negative sites, is possible from there on, and a negative one up to minus
@@ -118,6 +130,22 @@ end one by one.
 Each part begins behind the one before it.
 
   $ grep '^part ' eight | awk 'NR > 1 && $2 != last + 1 { print "not", $0 } { last = $3 }'
+
+Around the first cuts, some in the middle, and the last one, the ground list of that level is that of its part.
+
+  $ for level in $(awk '/^part .* entries / { k++; if (k < 4 || k == 100 || k > 254) print $2, $3 }' eight); do
+  >   ground_at eight $level 2000000000 > ground
+  >   [ -s ground ] && part_of eight $level | cmp - ground
+  > done
+
+At most 256 parts are whole. The first list to end is that of eight electrons, and the next is that of all but the site
+whose pair with site 7 is 2^6, up to -220336128. A range that ends there has 256 parts, and the last one has 255 lists;
+one level more splits it.
+
+  $ sidb --form table --task range --range 0.000220336128:2 < eight.table | grep '^part ' | tail -1
+  part -220336191 -220336128 entries 255
+  $ sidb --form table --task range --range 0.000220336127:2 < eight.table | grep '^part ' | tail -1
+  part -220336191 -220336127 split
 
 Each site can be negative or neutral at some level, so there are 2^9 - 1 prefixes.
 

@@ -2,6 +2,10 @@
 #![tactic(auto)]
 
 #[cfg(test)]
+mod counting;
+#[cfg(test)]
+mod meeting;
+#[cfg(test)]
 mod of_branch_search;
 #[cfg(test)]
 mod of_incumbent;
@@ -9,5 +13,7 @@ mod of_incumbent;
 mod of_occupation;
 #[cfg(test)]
 mod of_shared_board;
+#[cfg(test)]
+mod of_sidb_units;
 #[cfg(test)]
 mod problems;

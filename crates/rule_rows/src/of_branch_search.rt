@@ -1,12 +1,14 @@
-ghost use Rattle.std.specs.Prelude.{◌≤◌};
+ghost use Rattle.std.specs.Prelude.{◌≤◌, ◌^◌, unsigned_abs};
 
+use crate::counting::Counts;
+use crate::meeting::Meeting;
+use crate::problems::{two_neighbours, wide_five};
 use branch_search::{Bound, LeafList, LeavesAnswer, RoundAnswer, least_bound, leaves, round};
 use charge_state::Charge;
 use potential_problem::{Levels, Problem, problem_of, span_between};
-use sidb_io::{Event, Gate, NoGate};
+use sidb_io::{Event, NoGate};
 use sidb_units::Memory;
 use std::alloc::Global;
-use std::sync::atomic::{AtomicU64, Ordering};
 use std::test::Fail;
 use std::thread::Threads;
 
@@ -96,73 +98,120 @@ fn rounds_find_energies(rt: HostRuntime) -> Result<(), Fail> {
     Ok(())
 }
 
-/// Two neighbours along a row.
-fn two_neighbours(alloc: Global) -> Result<Problem, Memory> {
-    let spans = [span_between(620_124_254_312, 620_124_254_313)];
-    let levels = Levels {
-        base: 3,
-        mu_minus: -320_000_000_000,
-        mu_plus: -910_000_000_000,
-    };
-    problem_of(alloc, 2, &[0], &spans, &levels)
-}
-
-/// Counts the steps of each of two workers.
-#[derive(Drop)]
-struct Counts {
-    claims: [AtomicU64; 2],
-    enters: AtomicU64,
-    publishes: AtomicU64,
-}
-
-impl Gate for Counts {
-    fn at(&self, worker: u64, event: Event) {
-        match event {
-            Event::Claim => {
-                if worker < 2 {
-                    self.claims[worker as usize].fetch_add(1, Ordering::SeqCst);
-                }
-            }
-            Event::Look => {}
-            Event::Enter => {
-                self.enters.fetch_add(1, Ordering::SeqCst);
-            }
-            Event::Publish => {
-                self.publishes.fetch_add(1, Ordering::SeqCst);
-            }
-        }
-    }
-}
-
-/// Nothing was counted yet.
-fn no_counts() -> Counts {
-    Counts {
-        claims: [AtomicU64::new(0), AtomicU64::new(0)],
-        enters: AtomicU64::new(0),
-        publishes: AtomicU64::new(0),
-    }
-}
-
 /// One worker claims nine tasks and once more, and enters the one list that is below all others;
 /// of two each claims, and both may enter a list before they see the other's energy.
 #[test]
 fn workers_step_on_the_board(rt: HostRuntime) -> Result<(), Fail> {
     let alloc = rt.alloc();
     let problem = two_neighbours(alloc)?;
-    let alone = no_counts();
+    let alone = Counts::new();
     let answer = round(&rt, alloc, &problem, 0, 100, 1, &alone);
     assert!(rt; matches!(answer, RoundAnswer::Done(Some(0))));
-    assert_eq!(rt; alone.claims[0].load(Ordering::SeqCst), 10);
-    assert_eq!(rt; alone.enters.load(Ordering::SeqCst), 1);
-    assert_eq!(rt; alone.publishes.load(Ordering::SeqCst), 1);
-    let both = no_counts();
+    assert_eq!(rt; alone.claims(), (10, 0));
+    assert_eq!(rt; alone.enters(), 1);
+    assert_eq!(rt; alone.publishes(), 1);
+    let both = Counts::new();
     let answer = round(&rt, alloc, &problem, 0, 100, 2, &both);
     assert!(rt; matches!(answer, RoundAnswer::Done(Some(0))));
-    let first = both.claims[0].load(Ordering::SeqCst);
-    let second = both.claims[1].load(Ordering::SeqCst);
-    assert!(rt; first >= 1 && second >= 1 && first.wrapping_add(second) == 11);
-    let enters = both.enters.load(Ordering::SeqCst);
+    let (first, second) = both.claims();
+    assert!(rt; first >= 1 && second >= 1 && both.all_claims() == 11);
+    let enters = both.enters();
     assert!(rt; enters == 1 || enters == 2);
-    assert_eq!(rt; both.publishes.load(Ordering::SeqCst), enters);
+    assert_eq!(rt; both.publishes(), enters);
+    Ok(())
+}
+
+/// Two workers are at work at the same time: each is before its first claim when the other is.
+#[test]
+fn two_workers_meet_before_they_claim(rt: HostRuntime) -> Result<(), Fail> {
+    let alloc = rt.alloc();
+    let problem = two_neighbours(alloc)?;
+    let gate = Meeting::before(Event::Claim);
+    let answer = round(&rt, alloc, &problem, 0, 5, 2, &gate);
+    assert!(rt; matches!(answer, RoundAnswer::Done(Some(0))));
+    assert!(rt; gate.is_over());
+    Ok(())
+}
+
+/// Both workers have looked before either enters a list, so both lists are entered: with the empty
+/// prefix and the two of one charge these are the five nodes, and one of the two passes a limit of
+/// four.
+#[test]
+fn two_workers_enter_at_once(rt: HostRuntime) -> Result<(), Fail> {
+    let alloc = rt.alloc();
+    let problem = two_neighbours(alloc)?;
+    let gate = Meeting::before(Event::Enter);
+    let within = round(&rt, alloc, &problem, 0, 5, 2, &gate);
+    assert!(rt; matches!(within, RoundAnswer::Done(Some(0))));
+    assert!(rt; gate.is_over());
+    let gate = Meeting::before(Event::Enter);
+    let over = round(&rt, alloc, &problem, 0, 4, 2, &gate);
+    assert!(rt; matches!(over, RoundAnswer::Exceeded));
+    assert!(rt; gate.is_over());
+    Ok(())
+}
+
+/// Whether so many workers claim each of 16 tasks once, and once more each; whether they enter so
+/// many members of four and five charges, one time each; and whether they pass a limit of one node
+/// fewer than there are.
+fn enters_each_once<R: Threads + Sync>(
+    rt: &R,
+    alloc: Global,
+    workers: u64,
+    threshold: i64,
+    nodes: u64,
+    enters: u64,
+) -> Result<bool, Memory>
+    requires workers { (1 ≤ workers) × (workers ≤ 16) }
+    requires threshold { unsigned_abs threshold ≤ 2 ^ 60 }
+    requires nodes { (2 ≤ nodes) × (nodes ≤ 100) }
+{
+    let problem = wide_five(alloc)?;
+    let gate = Counts::new();
+    let within = round(rt, alloc, &problem, threshold, nodes, workers, &gate);
+    let over = round(rt, alloc, &problem, threshold, nodes - 1, workers, &NoGate);
+    let answers = matches!(within, RoundAnswer::Done(None))
+        && matches!(over, RoundAnswer::Exceeded);
+    let counts = gate.all_claims() == workers + 16 && gate.enters() == enters;
+    Ok(answers && counts && gate.publishes() == 0)
+}
+
+/// In the tree of five sites with at most k negative charges there are as many members of j charges
+/// as ways to choose up to k of j, but not the list of neutral charges alone. A low of 0 leaves one
+/// negative charge, a low of 1 two, and a low of 3 three: 20, 40 and 55 nodes, of which 10, 26
+/// and 40 have four or five charges.
+#[test]
+fn each_node_is_entered_once(rt: HostRuntime) -> Result<(), Fail> {
+    let alloc = rt.alloc();
+    for workers in [1, 2, 16] {
+        assert!(rt; enters_each_once(&rt, alloc, workers, 0, 20, 10)?);
+        assert!(rt; enters_each_once(&rt, alloc, workers, 1, 40, 26)?);
+        assert!(rt; enters_each_once(&rt, alloc, workers, 3, 55, 40)?);
+    }
+    Ok(())
+}
+
+/// Whether so many workers find energy 0 of three sites apart and none below, and refuse a limit
+/// that the members of fewer than three charges reach.
+fn finds_with<R: Threads + Sync>(rt: &R, alloc: Global, problem: &Problem, workers: u64) -> bool
+    requires { (1 ≤ workers) × (workers ≤ 16) }
+{
+    let at = round(rt, alloc, problem, 0, 100, workers, &NoGate);
+    let below = round(rt, alloc, problem, -1, 100, workers, &NoGate);
+    let found = least_bound(rt, alloc, problem, 100, workers, &NoGate);
+    let refused = least_bound(rt, alloc, problem, 13, workers, &NoGate);
+    let rounds = matches!(at, RoundAnswer::Done(Some(0)))
+        && matches!(below, RoundAnswer::Done(None));
+    rounds && matches!(found, Bound::Found(0)) && matches!(refused, Bound::Budget)
+}
+
+/// One, two and sixteen workers find the same.
+#[test]
+fn workers_change_no_answer(rt: HostRuntime) -> Result<(), Fail> {
+    let alloc = rt.alloc();
+    let problem = three_apart(alloc)?;
+    assert!(rt; finds_with(&rt, alloc, &problem, 1));
+    assert!(rt; finds_with(&rt, alloc, &problem, 2));
+    assert!(rt; finds_with(&rt, alloc, &problem, 16));
     Ok(())
 }

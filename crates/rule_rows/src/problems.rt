@@ -22,6 +22,17 @@ pub fn neighbours(alloc: Global, base: u64) -> Result<Problem, Memory>
     problem_of(alloc, 3, &[0, 1, 0], &spans, &levels)
 }
 
+/// Two neighbours along a row.
+pub fn two_neighbours(alloc: Global) -> Result<Problem, Memory> {
+    let spans = [span_between(620_124_254_312, 620_124_254_313)];
+    let levels = Levels {
+        base: 3,
+        mu_minus: -320_000_000_000,
+        mu_plus: -910_000_000_000,
+    };
+    problem_of(alloc, 2, &[0], &spans, &levels)
+}
+
 /// Three sites, of which the first and the last have a potential from 50 to 52.
 pub fn apart(alloc: Global) -> Result<Problem, Memory>
     ensures sites { IfOk result (λ p. p.sites ≡ 3) }
@@ -51,4 +62,17 @@ pub fn wide_pair(alloc: Global) -> Result<Problem, Memory>
         mu_plus: -590_000_000_002,
     };
     problem_of(alloc, 2, &[0], &[span_between(1, 3)], &levels)
+}
+
+/// Five sites in base 2, each pair with a potential from 1 to 3. No list is certainly valid: two
+/// negative charges may be too near, and beside one alone a neutral site may be too far. Up to
+/// three negative charges are possible.
+pub fn wide_five(alloc: Global) -> Result<Problem, Memory> {
+    let levels = Levels {
+        base: 2,
+        mu_minus: -2,
+        mu_plus: -590_000_000_002,
+    };
+    let classes = [0, 0, 0, 0, 0, 0, 0, 0, 0, 0];
+    problem_of(alloc, 5, &classes, &[span_between(1, 3)], &levels)
 }
