@@ -1,25 +1,29 @@
-# Has each crate of crates.txt its heading in docs/PROMISES.md, or its place in the list there of
-# those whose README tells what they promise, and its row in docs/CHAIN.md, and is each such heading
-# and place a crate? Reads the three in this order.
+# Has each crate of crates.txt its place in a table of docs/PROVED.md and its row in docs/CHAIN.md,
+# and is each first name in a table of crates there, and of each row, a crate? Reads the three in
+# this order.
 
 reading == "crates" { if (crate_of_line($0) != "") is_crate[crate_of_line($0)] = 1 }
-reading == "promises" && /^## / { in_list = /^## In the READMEs/ }
-reading == "promises" && /^### / { take_heading($2) }
-reading == "promises" && in_list { take_list() }
-reading == "chain" && /^\| [a-z_0-9]+ \|/ { has_chain_row[$2] = 1 }
+reading == "proved" || reading == "chain" { take_line() }
 END { for (crate in is_crate) check_crate(crate) }
 
-function take_heading(crate) {
-    has_heading[crate] = 1
+# The table of crates has them in its first column: in docs/CHAIN.md one, without backticks.
+function take_line(    cell, told, count, i) {
+    if (!/^\|/) in_table = 0
+    else if (/^\| crates? \|/) in_table = 1
+    else if (in_table && !/^\|-/) {
+        split($0, cell, "|")
+        count = reading == "chain" ? split(cell[2], told, " ") : quoted(cell[2], told)
+        for (i = 1; i <= count; i++) take_crate(told[i])
+    }
+}
+
+function take_crate(crate) {
+    if (reading == "chain") has_chain_row[crate] = 1
+    else has_place[crate] = 1
     if (!(crate in is_crate)) fault("no crate " crate)
 }
 
-function take_list(    told, count, i) {
-    count = quoted($0, told)
-    for (i = 1; i <= count; i++) take_heading(told[i])
-}
-
 function check_crate(crate) {
-    if (!(crate in has_heading)) fault_of_all("no heading " crate " in docs/PROMISES.md")
+    if (!(crate in has_place)) fault_of_all("no place of " crate " in docs/PROVED.md")
     if (!(crate in has_chain_row)) fault_of_all("no row " crate " in docs/CHAIN.md")
 }
