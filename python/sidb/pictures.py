@@ -9,7 +9,7 @@ from __future__ import annotations
 import io
 import math
 from collections.abc import Iterable, Mapping, Sequence
-from dataclasses import dataclass, field
+from dataclasses import dataclass, field, replace
 from pathlib import Path as FilePath
 from typing import Any
 
@@ -113,7 +113,7 @@ def _finished(ax: Axes, path: str | FilePath | None) -> Figure:
 @dataclass(frozen=True)
 class Scene:
     """What a picture of a layout shows: charges and colours by place, the mark of the entry, labels beside places,
-    and room for all of ``whole``, where the layout is a part of that."""
+    and room for all of ``whole``, where the layout is a part of that; or the frame ``bounds``."""
 
     layout: Layout
     title: str
@@ -122,6 +122,7 @@ class Scene:
     mark: Mark | None = None
     labels: Mapping[Place, str] = field(default_factory=dict)
     whole: Layout | None = None
+    bounds: tuple[float, float, float, float] | None = None
 
     def positions(self) -> list[tuple[float, float]]:
         """Of all dots and fixed charges, in Å."""
@@ -136,6 +137,8 @@ class Scene:
 
     def frame(self) -> tuple[float, float, float, float]:
         """Left, right, top and bottom, in Å, with a margin, and with room for labels; not too flat to look at."""
+        if self.bounds is not None:
+            return self.bounds
         xs, ys = zip(*self.positions())
         left, right = min(xs) - 12, max(xs) + 12
         right += (right - left) * 0.12 if self.labels else 0
@@ -153,12 +156,14 @@ def draw(
     marks: bool = True,
     legend: bool = True,
     colours: Mapping[Place, str] | None = None,
+    frame: tuple[float, float, float, float] | None = None,
 ) -> Figure:
     """Draws a layout: its lattice, dots with their charges in one entry, fixed charges, and what decides.
 
     Of a gate the inputs and outputs are named. ``colours`` fills dots, by place, in place of their charges' colours.
+    ``frame``: left, right, top and bottom of the picture in Å; None for all dots with a margin.
     """
-    scene = scene_of(subject, entry, title, colours or {})
+    scene = replace(scene_of(subject, entry, title, colours or {}), bounds=frame)
     if ax is None:
         left, right, top, bottom = scene.frame()
         width = min(max((right - left) / 22, 3.2), 9.0)

@@ -2,7 +2,7 @@
 use Rattle.std.proofs.Common.{◌≡◌, ◌∙◌, sym, ap, refl, ℕ, ◌+◌, ◌*◌, ◌==◌, List, [], ◌∷◌, ◌⊎◌, inl, inr, Option, None, Some, if◌then◌else◌, slice_index_or}
 use Rattle.clap.specs.Walk.{Text}
 use Rattle.command_words.specs.declared.settings.Task.{Task}
-use Rattle.command_words.specs.declared.settings.Task.TheVariants.{Ground, Potentials, Certify, Check, Window, Occupation, Range, Gen, Truth, Domain}
+use Rattle.command_words.specs.declared.settings.Task.TheVariants.{Ground, Potentials, Certify, Check, Window, Occupation, Range, Gen, Truth, Domain, Region}
 use Rattle.command_words.specs.declared.settings.Form.{Form}
 use Rattle.command_words.specs.declared.settings.Form.TheVariants.{Sites, Sqd, Table}
 use Rattle.command_words.specs.Options.{IsChoice}
@@ -53,7 +53,7 @@ key text = slice_index_or text 0 0 * 1000 + slice_index_or text 1 0
 
 -- all tasks
 abbrev tasks : List Task
-tasks = Ground ∷ Potentials ∷ Certify ∷ Check ∷ Window ∷ Occupation ∷ Range ∷ Gen ∷ Truth ∷ Domain ∷ []
+tasks = Ground ∷ Potentials ∷ Certify ∷ Check ∷ Window ∷ Occupation ∷ Range ∷ Gen ∷ Truth ∷ Domain ∷ Region ∷ []
 
 each_task : (task : Task) → IsAmong tasks task
 each_task Ground = inl refl
@@ -66,6 +66,7 @@ each_task Range = inr (inr (inr (inr (inr (inr (inl refl))))))
 each_task Gen = inr (inr (inr (inr (inr (inr (inr (inl refl)))))))
 each_task Truth = inr (inr (inr (inr (inr (inr (inr (inr (inl refl))))))))
 each_task Domain = inr (inr (inr (inr (inr (inr (inr (inr (inr (inl refl)))))))))
+each_task Region = inr (inr (inr (inr (inr (inr (inr (inr (inr (inr (inl refl))))))))))
 
 -- the task of which a name begins with these letters
 unfoldable pub task_by : ℕ → Option Task
@@ -90,6 +91,8 @@ task_by k =
     then Some Truth
     else if k == 100111
     then Some Domain
+    else if k == 114101
+    then Some Region
     else None
 
 known_task : (task : Task) → task_by (key (task_name task)) ≡ Some task
@@ -104,6 +107,7 @@ known_task Range = refl
 known_task Gen = refl
 known_task Truth = refl
 known_task Domain = refl
+known_task Region = refl
 
 -- the name of a task begins with letters of one
 pub begins_a_task : (text : Text) (task : Task) → text ≡ task_name task → task_by (key text) ≡ Some task

@@ -14,12 +14,13 @@ use Rattle.command_words.specs.declared.settings.Settings.{Settings}
 use Rattle.command_words.specs.declared.settings.SearchSettings.{SearchSettings}
 use Rattle.command_words.specs.declared.settings.GeneratedSettings.{GeneratedSettings}
 use Rattle.command_words.specs.declared.settings.LevelSettings.{LevelSettings}
+use Rattle.command_words.specs.declared.settings.RegionSettings.{RegionSettings}
 use Rattle.command_words.specs.declared.settings.ReportSettings.{ReportSettings}
 use Rattle.command_words.specs.declared.settings.Task.{Task}
 use Rattle.command_words.specs.declared.settings.Form.{Form}
-use Rattle.command_words.specs.Limits.{AreGeneratedNumbers, AreSearchLimits, generated_sites, generator_number, node_limit, thermal_energy, window_width, worker_count}
+use Rattle.command_words.specs.Limits.{AreGeneratedNumbers, AreSearchLimits, generated_sites, generator_number, node_limit, refine_depth, thermal_energy, window_width, worker_count}
 use Rattle.command_words.specs.Options.{IsBase, IsGiven, IsNumber}
-use Rattle.command_words.specs.Settings.{AreGeneratedSettings, AreGroups, AreLevelSettings, AreParams, AreReportSettings, AreSearchSettings}
+use Rattle.command_words.specs.Settings.{AreGeneratedSettings, AreGroups, AreLevelSettings, AreParams, AreRegionSettings, AreReportSettings, AreSearchSettings}
 use Rattle.command_words.proofs.Readings.{IsReadOnce, one_read}
 use Rattle.command_words.proofs.DepthLemmas.{one_depths}
 use Rattle.command_words.proofs.GateLemmas.{AreGatesOnce, one_gate}
@@ -153,6 +154,23 @@ one_generated once value g h a b =
         (subst (λ (e : ℕ). (x : AreGeneratedNumbers a c) (y : AreGeneratedNumbers a e) → made a c x ≡ made a e y) second
         (λ x y. ap (made a c) (one_generated_range a c x y)))
 
+-- there is one proof that a depth of refinement is in range
+one_refine_range : (refine : ℕ) (a b : IsWithin refine_depth (pos refine)) → a ≡ b
+one_refine_range refine = hlevel props
+
+-- how finely tiles are cut has one meaning
+one_region : IsReadOnce → (value : Text → Option Text) (r t : RegionSettings) → AreRegionSettings value r → AreRegionSettings value t → r ≡ t
+one_region once value r t a b =
+    let depths : pos r.refine ≡ pos t.refine = one_number once refine_depth (value (codes "refine")) (pos r.refine) (pos t.refine) a.refine b.refine in
+    let refine : r.refine ≡ t.refine = cc in
+    same r.refine t.refine refine r.in_range t.in_range
+  where
+    made : (refine : ℕ) → IsWithin refine_depth (pos refine) → RegionSettings
+    made refine within = record { refine = refine; in_range = within }
+
+    same : (a b : ℕ) → a ≡ b → (x : IsWithin refine_depth (pos a)) (y : IsWithin refine_depth (pos b)) → made a x ≡ made b y
+    same a b first = subst (λ (e : ℕ). (x : IsWithin refine_depth (pos a)) (y : IsWithin refine_depth (pos e)) → made a x ≡ made e y) first (λ x y. ap (made a) (one_refine_range a x y))
+
 -- the settings of a report have one meaning
 one_report : (value : Text → Option Text) (r t : ReportSettings) → AreReportSettings value r → AreReportSettings value t → r ≡ t
 one_report value r t a b =
@@ -161,14 +179,14 @@ one_report value r t a b =
     (one_flag (value (codes "energies")) r.energies t.energies a.energies b.energies)
 
 -- settings are given by their groups
-same_settings : (t u : Task) (f h : Form) (p q : Params) (s r : SearchSettings) (m n : ReportSettings) (l k : LevelSettings) (x y : GateSettings) (g i : GeneratedSettings)
-    → t ≡ u → f ≡ h → p ≡ q → s ≡ r → m ≡ n → l ≡ k → x ≡ y → g ≡ i
-    → ◌≡◌ {A = Settings} (record { task = t; form = f; params = p; search = s; report = m; levels = l; gate = x; generated = g }) (record { task = u; form = h; params = q; search = r; report = n; levels = k; gate = y; generated = i })
-same_settings t u f h p q s r m n l k x y g i task form params search report levels gate generated = cc
+same_settings : (t u : Task) (f h : Form) (p q : Params) (s r : SearchSettings) (m n : ReportSettings) (l k : LevelSettings) (x y : GateSettings) (g i : GeneratedSettings) (c d : RegionSettings)
+    → t ≡ u → f ≡ h → p ≡ q → s ≡ r → m ≡ n → l ≡ k → x ≡ y → g ≡ i → c ≡ d
+    → ◌≡◌ {A = Settings} (record { task = t; form = f; params = p; search = s; report = m; levels = l; gate = x; generated = g; region = c }) (record { task = u; form = h; params = q; search = r; report = n; levels = k; gate = y; generated = i; region = d })
+same_settings t u f h p q s r m n l k x y g i c d task form params search report levels gate generated region = cc
 
 pub one_settings : IsReadOnce → AreGivenByNumbers → AreGatesOnce → (value : Text → Option Text) (a b : Settings) → AreGroups value a → AreGroups value b → a ≡ b
 one_settings once given gates value a b e f =
-    same_settings a.task b.task a.form b.form a.params b.params a.search b.search a.report b.report a.levels b.levels a.gate b.gate a.generated b.generated
+    same_settings a.task b.task a.form b.form a.params b.params a.search b.search a.report b.report a.levels b.levels a.gate b.gate a.generated b.generated a.region b.region
     (one_task (value (codes "task")) a.task b.task e.task f.task)
     (one_form (value (codes "form")) a.form b.form e.form f.form)
     (one_params once given value a.params b.params e.params f.params)
@@ -177,3 +195,4 @@ one_settings once given gates value a b e f =
     (one_level once value a.levels b.levels e.levels f.levels)
     (one_gate gates (value (codes "input")) (value (codes "output")) (value (codes "function")) (value (codes "grid")) a.gate b.gate e.gate f.gate)
     (one_generated once value a.generated b.generated e.generated f.generated)
+    (one_region once value a.region b.region e.region f.region)

@@ -3,22 +3,23 @@ use Rattle.std.proofs.Common.{◌≡◌, refl, sym, subst, inl, inr, ℕ, pos, [
 use Rattle.std.proofs.lemmas.Int.{ints}
 use Rattle.command_words.specs.declared.settings.Settings.{Settings}
 use Rattle.command_words.specs.declared.settings.Task.{Task}
-use Rattle.command_words.specs.declared.settings.Task.TheVariants.{Ground, Range, Truth, Domain}
+use Rattle.command_words.specs.declared.settings.Task.TheVariants.{Ground, Range, Truth, Domain, Region}
 use Rattle.command_words.specs.declared.settings.Form.{Form}
 use Rattle.command_words.specs.declared.settings.Form.TheVariants.{Sites, Table}
 use Rattle.model_params.specs.Quantities.{IsWithin, level_depth, level_gap, permittivity, screening_length}
 use Rattle.gate_model.specs.declared.function.Function.{Function}
+use Rattle.gate_model.specs.Grids.{Axes, HasFarEnds}
 use Rattle.gate_model.proofs.StandardFacts.{pair}
 use Rattle.command_words.specs.declared.settings.DepthRange.{DepthRange}
 use Rattle.command_words.specs.Depths.{AreDepths}
 use Rattle.command_words.specs.Gates.{AreToldPairs, HasGate, IsToldFunction}
-use Rattle.command_words.specs.Limits.{AreEndsOfDepths, generated_sites, generator_number, node_limit, thermal_energy, worker_count}
+use Rattle.command_words.specs.Limits.{AreEndsOfDepths, generated_sites, generator_number, node_limit, refine_depth, thermal_energy, worker_count}
 use Rattle.command_words.specs.Options.{IsBase, IsChoice, IsNumber, IsRead}
-use Rattle.command_words.specs.Settings.{HasNeeds, IsSettingsOf, form_name, task_name}
+use Rattle.command_words.specs.Settings.{HasNeeds, HasRegionNeeds, IsSettingsOf, form_name, task_name}
 use Rattle.clap.proofs.OnLiterals.{clap_on_literals}
 use Rattle.command_words.specs.Command.{sidb_command, matches_in}
 use Rattle.command_words.proofs.Choices.{begins_a_form, begins_a_task, form_by, key, task_by}
-use Rattle.command_words.proofs.StandardFacts.{domain_settings, preset, rows, wire_gate}
+use Rattle.command_words.proofs.StandardFacts.{domain_settings, preset, region_settings, rows, wire_gate}
 
 no_base_four : IsBase (Some (codes "4")) 4 → ⊥
 no_base_four (inl h) = let e = h.1 in omega (arith, e)
@@ -107,6 +108,23 @@ no_truth_of_a_table needs = needs.no_table refl
 
 no_domain_without_grid : HasNeeds Domain (record domain_settings { gate = record wire_gate { grid = None } }) → ⊥
 no_domain_without_grid needs = needs.points refl
+
+no_refinement_of_seven : IsWithin refine_depth (pos 7) → ⊥
+no_refinement_of_seven within = omega (arith, ints, within.to)
+
+no_region_without_grid : HasNeeds Region (record region_settings { gate = record wire_gate { grid = None } }) → ⊥
+no_region_without_grid needs = let some = needs.points in absurd (cc)
+
+no_region_of_a_table : HasNeeds Region (record region_settings { form = Table }) → ⊥
+no_region_of_a_table needs = needs.truth.no_table refl
+
+-- nor where the far end of a direction is out of its range
+no_region_beyond : (a : Axes) → a.eps ≡ record { start = pos 990000; step = pos 5000; count = 3 } → HasRegionNeeds (record region_settings { gate = record wire_gate { grid = Some a } }) → ⊥
+no_region_beyond a is needs =
+    let same : a ≡ needs.axes = cc (needs.points) in
+    let far = subst HasFarEnds (sym same) needs.far_ends in
+    let to = rw is at far.eps.to in
+    omega (arith, ints, to)
 
 -- what is not told is not there
 not_told : (r : Option DepthRange) → IsRead AreDepths None r → r ≡ None

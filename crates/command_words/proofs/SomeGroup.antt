@@ -11,9 +11,9 @@ use Rattle.command_words.specs.declared.settings.SearchSettings.{SearchSettings}
 use Rattle.command_words.specs.declared.settings.ReportSettings.{ReportSettings}
 use Rattle.command_words.specs.declared.settings.DepthRange.{DepthRange}
 use Rattle.command_words.specs.Depths.{AreDepths}
-use Rattle.command_words.specs.Limits.{AreGeneratedNumbers, AreSearchLimits, generated_sites, generator_number, node_limit, thermal_energy, window_width, worker_count}
+use Rattle.command_words.specs.Limits.{AreGeneratedNumbers, AreSearchLimits, generated_sites, generator_number, node_limit, refine_depth, thermal_energy, window_width, worker_count}
 use Rattle.command_words.specs.Options.{IsBase, IsGiven, IsNumber, IsRead}
-use Rattle.command_words.specs.Settings.{AreGeneratedSettings, AreLevelSettings, AreParams, AreReportSettings, AreSearchSettings}
+use Rattle.command_words.specs.Settings.{AreGeneratedSettings, AreLevelSettings, AreParams, AreRegionSettings, AreReportSettings, AreSearchSettings}
 use Rattle.command_words.proofs.Decided.{Both, HasSomeOrNone, both, moved}
 use Rattle.command_words.proofs.Readings.{AreReadings, IsReadOnce, some_read}
 use Rattle.command_words.proofs.DepthLemmas.{some_depths}
@@ -190,3 +190,14 @@ module _ (readings : AreReadings) (value : List ℕ → Option (List ℕ)) where
 
       back : (g : GeneratedSettings) → AreGeneratedSettings value g → (x : ℕ × ℕ) × Generated x
       back g are = ((g.number, g.sites), (are.number, are.sites))
+
+  -- the number of the option of tiles
+  abbrev Refined : ℕ → Type 0
+  Refined n = IsNumber refine_depth (value (codes "refine")) (pos n)
+
+  -- the option gives how finely tiles are cut, or gives none
+  pub some_region : HasSomeOrNone (AreRegionSettings value)
+  some_region =
+      moved Refined (AreRegionSettings value)
+      (λ n is. (record { refine = n; in_range = number_within refine_depth (value (codes "refine")) (pos n) (omega (arith, ints)) (omega (arith, ints)) is }, record { refine = is }))
+      (λ r are. (r.refine, are.refine)) (some_count readings refine_depth 2 refl (value (codes "refine")))

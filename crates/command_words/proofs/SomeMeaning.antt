@@ -7,20 +7,22 @@ use Rattle.command_words.specs.declared.gate_settings.GateSettings.{GateSettings
 use Rattle.command_words.specs.declared.settings.GeneratedSettings.{GeneratedSettings}
 use Rattle.command_words.specs.declared.settings.LevelSettings.{LevelSettings}
 use Rattle.command_words.specs.declared.settings.SearchSettings.{SearchSettings}
+use Rattle.command_words.specs.declared.settings.RegionSettings.{RegionSettings}
 use Rattle.command_words.specs.declared.settings.ReportSettings.{ReportSettings}
 use Rattle.command_words.specs.declared.settings.Task.{Task}
-use Rattle.command_words.specs.declared.settings.Task.TheVariants.{Ground, Potentials, Certify, Check, Window, Occupation, Range, Gen, Truth, Domain}
+use Rattle.command_words.specs.declared.settings.Task.TheVariants.{Ground, Potentials, Certify, Check, Window, Occupation, Range, Gen, Truth, Domain, Region}
 use Rattle.command_words.specs.declared.settings.Form.{Form}
 use Rattle.command_words.specs.declared.settings.Form.TheVariants.{Sites, Sqd, Table}
 use Rattle.command_words.specs.Command.{refusals_of, value_of}
+use Rattle.gate_model.specs.Grids.{Axes, HasFarEnds}
 use Rattle.command_words.specs.Options.{IsChoice}
 use Rattle.command_words.specs.Gates.{AreGateSettings, HasGate}
-use Rattle.command_words.specs.Settings.{AreGeneratedSettings, AreGroups, AreLevelSettings, AreParams, AreReportSettings, AreSearchSettings, AreSettings, HasDomainNeeds, HasNeeds, HasTruthNeeds, IsSettingsOf, form_name, task_name}
-use Rattle.command_words.proofs.Decided.{Both, HasSomeOrNone, both, empty_decided, moved}
+use Rattle.command_words.specs.Settings.{AreGeneratedSettings, AreGroups, AreLevelSettings, AreParams, AreRegionSettings, AreReportSettings, AreSearchSettings, AreSettings, HasDomainNeeds, HasNeeds, HasRegionNeeds, HasTruthNeeds, IsSettingsOf, form_name, task_name}
+use Rattle.command_words.proofs.Decided.{Both, HasSomeOrNone, both, empty_decided, far_ends_decided, moved}
 use Rattle.command_words.proofs.Choices.{some_form, some_task}
 use Rattle.command_words.proofs.Readings.{AreReadings, IsReadOnce}
 use Rattle.command_words.proofs.SomeGate.{AreGateLaws, gate_decided, some_gate}
-use Rattle.command_words.proofs.SomeGroup.{some_generated, some_levels, some_params, some_report, some_search}
+use Rattle.command_words.proofs.SomeGroup.{some_generated, some_levels, some_params, some_region, some_report, some_search}
 
 -- something is there, or is not
 some_decided : {A : Type 0} (o : Option A) → (o ≢ None) ⊎ ((o ≢ None) → ⊥)
@@ -56,11 +58,25 @@ module _ (gates : AreGateLaws) (s : Settings) where
       by (inr never) grid = inr (λ has. never has.truth)
       by (inl truth) (inr never) = inr (λ has. never has.points)
 
+  -- the same for regions
+  region_decided : HasRegionNeeds s ⊎ (HasRegionNeeds s → ⊥)
+  region_decided = by truth_decided s.gate.grid refl
+    where
+      with_grid : HasTruthNeeds s → (axes : Axes) → s.gate.grid ≡ Some axes → HasFarEnds axes ⊎ (HasFarEnds axes → ⊥) → HasRegionNeeds s ⊎ (HasRegionNeeds s → ⊥)
+      with_grid truth axes given (inl far) = inl (record { truth = truth; axes = axes; points = given; far_ends = far })
+      with_grid truth axes given (inr never) = inr (λ has. let same : has.axes ≡ axes = cc (given, has.points) in never (subst HasFarEnds same has.far_ends))
+
+      by : HasTruthNeeds s ⊎ (HasTruthNeeds s → ⊥) → (grid : Option Axes) → s.gate.grid ≡ grid → HasRegionNeeds s ⊎ (HasRegionNeeds s → ⊥)
+      by (inr never) grid given = inr (λ has. never has.truth)
+      by (inl truth) None none = inr (λ has. cc (none, has.points))
+      by (inl truth) (Some axes) given = with_grid truth axes given (far_ends_decided axes)
+
   -- a task has what it needs, or lacks it
   needs_decided : (task : Task) → HasNeeds task s ⊎ (HasNeeds task s → ⊥)
   needs_decided Range = some_decided s.levels.range
   needs_decided Truth = truth_decided
   needs_decided Domain = domain_decided
+  needs_decided Region = region_decided
   needs_decided Ground = inl tt
   needs_decided Potentials = inl tt
   needs_decided Certify = inl tt
@@ -79,11 +95,11 @@ module _ (readings : AreReadings) (once : IsReadOnce) (gates : AreGateLaws) (val
   Searched = Both (AreParams value) (Both (AreSearchSettings value) (AreLevelSettings value))
 
   -- the groups beside that
-  abbrev Beside : GateSettings × (GeneratedSettings × ReportSettings) → Type 0
-  Beside = Both (AreGateSettings value) (Both (AreGeneratedSettings value) (AreReportSettings value))
+  abbrev Beside : GateSettings × (GeneratedSettings × (RegionSettings × ReportSettings)) → Type 0
+  Beside = Both (AreGateSettings value) (Both (AreGeneratedSettings value) (Both (AreRegionSettings value) (AreReportSettings value)))
 
   -- all groups
-  abbrev Groups : (Task × Form) × ((Params × (SearchSettings × LevelSettings)) × (GateSettings × (GeneratedSettings × ReportSettings))) → Type 0
+  abbrev Groups : (Task × Form) × ((Params × (SearchSettings × LevelSettings)) × (GateSettings × (GeneratedSettings × (RegionSettings × ReportSettings)))) → Type 0
   Groups = Both Choices (Both Searched Beside)
 
   -- the options have such values, or have none
@@ -94,24 +110,25 @@ module _ (readings : AreReadings) (once : IsReadOnce) (gates : AreGateLaws) (val
       (both Searched Beside
       (both (AreParams value) (Both (AreSearchSettings value) (AreLevelSettings value)) (some_params readings value)
       (both (AreSearchSettings value) (AreLevelSettings value) (some_search readings value) (some_levels readings value once)))
-      (both (AreGateSettings value) (Both (AreGeneratedSettings value) (AreReportSettings value))
+      (both (AreGateSettings value) (Both (AreGeneratedSettings value) (Both (AreRegionSettings value) (AreReportSettings value)))
       (some_gate gates (value (codes "input")) (value (codes "output")) (value (codes "function")) (value (codes "grid")))
-      (both (AreGeneratedSettings value) (AreReportSettings value) (some_generated readings value) (some_report readings value))))
+      (both (AreGeneratedSettings value) (Both (AreRegionSettings value) (AreReportSettings value)) (some_generated readings value)
+      (both (AreRegionSettings value) (AreReportSettings value) (some_region readings value) (some_report readings value)))))
 
   -- so they give all groups, or don't
   some_all : HasSomeOrNone (AreGroups value)
   some_all = moved Groups (AreGroups value) to back some_groups
     where
-      to : (x : (Task × Form) × ((Params × (SearchSettings × LevelSettings)) × (GateSettings × (GeneratedSettings × ReportSettings)))) → Groups x → (s : Settings) × AreGroups value s
-      to ((task, form), ((params, (search, levels)), (gate, (generated, report)))) ((is_task, is_form), ((are_params, (are_search, are_levels)), (is_gate, (are_generated, are_report)))) = (
-        record { task = task; form = form; params = params; search = search; report = report; levels = levels; gate = gate; generated = generated },
-        record { task = is_task; form = is_form; params = are_params; search = are_search; report = are_report; levels = are_levels; gate = is_gate; generated = are_generated },
+      to : (x : (Task × Form) × ((Params × (SearchSettings × LevelSettings)) × (GateSettings × (GeneratedSettings × (RegionSettings × ReportSettings))))) → Groups x → (s : Settings) × AreGroups value s
+      to ((task, form), ((params, (search, levels)), (gate, (generated, (region, report))))) ((is_task, is_form), ((are_params, (are_search, are_levels)), (is_gate, (are_generated, (are_region, are_report))))) = (
+        record { task = task; form = form; params = params; search = search; report = report; levels = levels; gate = gate; generated = generated; region = region },
+        record { task = is_task; form = is_form; params = are_params; search = are_search; report = are_report; levels = are_levels; gate = is_gate; generated = are_generated; region = are_region },
       )
 
-      back : (s : Settings) → AreGroups value s → (x : (Task × Form) × ((Params × (SearchSettings × LevelSettings)) × (GateSettings × (GeneratedSettings × ReportSettings)))) × Groups x
+      back : (s : Settings) → AreGroups value s → (x : (Task × Form) × ((Params × (SearchSettings × LevelSettings)) × (GateSettings × (GeneratedSettings × (RegionSettings × ReportSettings))))) × Groups x
       back s are = (
-        ((s.task, s.form), ((s.params, (s.search, s.levels)), (s.gate, (s.generated, s.report)))),
-        ((are.task, are.form), ((are.params, (are.search, are.levels)), (are.gate, (are.generated, are.report)))),
+        ((s.task, s.form), ((s.params, (s.search, s.levels)), (s.gate, (s.generated, (s.region, s.report))))),
+        ((are.task, are.form), ((are.params, (are.search, are.levels)), (are.gate, (are.generated, (are.region, are.report))))),
       )
 
   -- so they give settings, or give none

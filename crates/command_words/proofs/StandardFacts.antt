@@ -11,15 +11,17 @@ use Rattle.clap.specs.Walk.{Text}
 use Rattle.command_words.specs.declared.settings.DepthRange.{DepthRange}
 use Rattle.command_words.specs.declared.settings.GeneratedSettings.{GeneratedSettings}
 use Rattle.command_words.specs.declared.settings.LevelSettings.{LevelSettings}
+use Rattle.command_words.specs.declared.settings.RegionSettings.{RegionSettings}
 use Rattle.command_words.specs.declared.settings.SearchSettings.{SearchSettings}
-use Rattle.command_words.specs.declared.settings.Task.TheVariants.{Ground, Potentials, Certify, Check, Window as WindowTask, Occupation, Range, Gen, Truth, Domain}
+use Rattle.command_words.specs.declared.settings.Task.TheVariants.{Ground, Potentials, Certify, Check, Window as WindowTask, Occupation, Range, Gen, Truth, Domain, Region}
 use Rattle.command_words.specs.declared.settings.Form.TheVariants.{Sites}
 use Rattle.command_words.specs.Command.{sidb_command, refusals_of, matches_in, value_of}
 use Rattle.command_words.specs.Depths.{AreDepths, IsDepth}
 use Rattle.command_words.specs.Gates.{HasGate}
-use Rattle.command_words.specs.Options.{IsChoice}
-use Rattle.command_words.specs.Settings.{AreGroups, HasTruthNeeds, IsSettingsOf, task_name}
-use Rattle.gate_model.proofs.StandardFacts.{grid_text, named, of_one, one_digit, one_pair, other_pair, pair, two_by_two, wire_differs, wire_is_gate}
+use Rattle.command_words.specs.Limits.{refine_depth}
+use Rattle.command_words.specs.Options.{IsChoice, IsNumber}
+use Rattle.command_words.specs.Settings.{AreGroups, HasRegionNeeds, HasTruthNeeds, IsSettingsOf, task_name}
+use Rattle.gate_model.proofs.StandardFacts.{far_ends, grid_text, named, of_one, one_digit, one_pair, other_pair, pair, two_by_two, wire_differs, wire_is_gate}
 use Rattle.model_params.proofs.StandardFacts.{preset as preset_params}
 
 -- each row is one fact about the definition
@@ -124,6 +126,10 @@ preset_generated = record {
   };
 }
 
+-- undecided rectangles are quartered twice
+abbrev pub preset_region : RegionSettings
+preset_region = record { refine = 2; in_range = record { from = omega (arith, ints); to = omega (arith, ints) } }
+
 -- no gate and no points
 abbrev pub no_gate : GateSettings
 no_gate = record { inputs = []; outputs = []; function = None; grid = None }
@@ -139,6 +145,7 @@ preset = record {
   levels = preset_levels;
   gate = no_gate;
   generated = preset_generated;
+  region = preset_region;
 }
 
 -- no places are all distinct
@@ -157,6 +164,7 @@ preset_groups = record {
   levels = record { window = refl; range = tt; kt = refl };
   gate = record { inputs = refl; outputs = refl; function = tt; grid = tt; distinct = none_differ };
   generated = record { number = refl; sites = refl };
+  region = record { refine = refl };
 }
 
 pub no_words_mean_preset : IsSettingsOf [] preset
@@ -174,6 +182,7 @@ pub record Tasks : Type 0 where
   pub gen : IsChoice task_name Ground (Some (codes "gen")) Gen
   pub truth : IsChoice task_name Ground (Some (codes "truth")) Truth
   pub domain : IsChoice task_name Ground (Some (codes "domain")) Domain
+  pub region : IsChoice task_name Ground (Some (codes "region")) Region
 
 pub tasks : Tasks
 tasks = record {
@@ -187,6 +196,7 @@ tasks = record {
   gen = refl;
   truth = refl;
   domain = refl;
+  region = refl;
 }
 
 -- the depths of 0 V and 2 V
@@ -229,6 +239,7 @@ range_groups = record {
   levels = record { window = refl; range = range_text; kt = refl };
   gate = record { inputs = refl; outputs = refl; function = tt; grid = tt; distinct = none_differ };
   generated = record { number = refl; sites = refl };
+  region = record { refine = refl };
 }
 
 range_taken : refusals_of range_words ≡ []
@@ -267,6 +278,7 @@ domain_groups = record {
   levels = record { window = refl; range = tt; kt = refl };
   gate = record { inputs = one_pair; outputs = other_pair; function = named.buf; grid = grid_text; distinct = wire_differs };
   generated = record { number = refl; sites = refl };
+  region = record { refine = refl };
 }
 
 domain_taken : refusals_of domain_words ≡ []
@@ -285,3 +297,44 @@ domain_words_mean = record {
   taken = domain_taken;
   values = record { groups = domain_groups; needs = record { truth = truth_needs; points = λ e. cc } };
 }
+
+-- four times
+four_times : IsNumber refine_depth (Some (codes "4")) (pos 4)
+four_times = record { digits = 1; numeral = one_digit 52 (omega arith) (omega arith); few = omega arith; value = refl; from = omega (arith, ints); to = omega (arith, ints) }
+
+-- the words of a region over that grid, and what they mean
+abbrev pub region_words : List Text
+region_words =
+    codes "--task" ∷ codes "region" ∷ codes "--input" ∷ codes "0:3" ∷ codes "--output" ∷ codes "2:1"
+    ∷ codes "--function" ∷ codes "buf" ∷ codes "--grid" ∷ codes "5:1:2,5:1:2" ∷ codes "--refine" ∷ codes "4" ∷ []
+
+abbrev pub region_settings : Settings
+region_settings = record preset {
+  task = Region;
+  gate = wire_gate;
+  region = record { refine = 4; in_range = record { from = omega (arith, ints); to = omega (arith, ints) } };
+}
+
+pub region_groups : AreGroups (value_of region_words) region_settings
+unfolding clap_on_literals sidb_command matches_in
+region_groups = record {
+  task = refl;
+  form = refl;
+  params = record { coulomb = refl; eps = refl; lam = refl; depth = refl; gap = refl; base = refl };
+  search = record { limit = refl; workers = refl };
+  report = record { json = (λ given. absurd (cc), λ e. absurd (cc)); energies = (λ given. absurd (cc), λ e. absurd (cc)) };
+  levels = record { window = refl; range = tt; kt = refl };
+  gate = record { inputs = one_pair; outputs = other_pair; function = named.buf; grid = grid_text; distinct = wire_differs };
+  generated = record { number = refl; sites = refl };
+  region = record { refine = four_times };
+}
+
+region_taken : refusals_of region_words ≡ []
+unfolding clap_on_literals sidb_command refusals_of
+region_taken = refl
+
+pub region_needs : HasRegionNeeds region_settings
+region_needs = record { truth = record { gate = wire_has_gate; no_table = λ e. cc }; axes = two_by_two; points = refl; far_ends = far_ends }
+
+pub region_words_mean : IsSettingsOf region_words region_settings
+region_words_mean = record { taken = region_taken; values = record { groups = region_groups; needs = region_needs } }

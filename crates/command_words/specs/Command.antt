@@ -23,7 +23,8 @@ abbrev pub option_names : List Text
 option_names = codes "task" ∷ codes "form" ∷ codes "eps" ∷ codes "lambda" ∷ codes "depth"
     ∷ codes "gap" ∷ codes "coulomb" ∷ codes "base" ∷ codes "limit" ∷ codes "workers"
     ∷ codes "window" ∷ codes "range" ∷ codes "kt" ∷ codes "input" ∷ codes "output"
-    ∷ codes "function" ∷ codes "grid" ∷ codes "number" ∷ codes "sites" ∷ []
+    ∷ codes "function" ∷ codes "grid" ∷ codes "number" ∷ codes "sites"
+    ∷ codes "refine" ∷ []
 
 -- the name of the program
 abbrev pub program_name : Text

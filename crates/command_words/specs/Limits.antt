@@ -43,6 +43,10 @@ generator_number = record {
 abbrev pub generated_sites : Quantity
 generated_sites = record { places = 0; least = pos 0; greatest = pos 64; preset = pos 40 }
 
+-- how often an undecided rectangle may be quartered: from 0 to 6, else 2
+abbrev pub refine_depth : Quantity
+refine_depth = record { places = 0; least = pos 0; greatest = pos 6; preset = pos 2 }
+
 -- the numbers of a generated layout are in their ranges
 pub record AreGeneratedNumbers (number sites : ℕ) : Type 0 where
   pub number_within : IsWithin generator_number (pos number)

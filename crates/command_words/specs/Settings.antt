@@ -1,22 +1,24 @@
 -- what a list of words asks for, group by group
-use Rattle.std.specs.Prelude.{◌≡◌, ◌≢◌, pos, [], List, Option, None, codes, ⊤}
+use Rattle.std.specs.Prelude.{◌≡◌, ◌≢◌, pos, [], List, Option, None, Some, codes, ⊤}
 use Rattle.clap.specs.Walk.{Text}
 use Rattle.model_params.specs.declared.params.Params.{Params}
 use Rattle.model_params.specs.Quantities.{coulomb_number, level_depth, level_gap, permittivity, screening_length}
+use Rattle.gate_model.specs.Grids.{Axes, HasFarEnds}
 use Rattle.command_words.specs.declared.settings.Task.{Task}
-use Rattle.command_words.specs.declared.settings.Task.TheVariants.{Ground, Potentials, Certify, Check, Window, Occupation, Range, Gen, Truth, Domain}
+use Rattle.command_words.specs.declared.settings.Task.TheVariants.{Ground, Potentials, Certify, Check, Window, Occupation, Range, Gen, Truth, Domain, Region}
 use Rattle.command_words.specs.declared.settings.Form.{Form}
 use Rattle.command_words.specs.declared.settings.Form.TheVariants.{Sites, Sqd, Table}
 use Rattle.command_words.specs.declared.settings.SearchSettings.{SearchSettings}
 use Rattle.command_words.specs.declared.settings.GeneratedSettings.{GeneratedSettings}
 use Rattle.command_words.specs.declared.settings.LevelSettings.{LevelSettings}
+use Rattle.command_words.specs.declared.settings.RegionSettings.{RegionSettings}
 use Rattle.command_words.specs.declared.settings.ReportSettings.{ReportSettings}
 use Rattle.command_words.specs.declared.settings.Settings.{Settings}
 use Rattle.command_words.specs.Command.{refusals_of, value_of}
 use Rattle.command_words.specs.Options.{IsBase, IsChoice, IsGiven, IsNumber, IsRead}
 use Rattle.command_words.specs.Depths.{AreDepths}
 use Rattle.command_words.specs.Gates.{AreGateSettings, HasGate}
-use Rattle.command_words.specs.Limits.{generated_sites, generator_number, node_limit, thermal_energy, window_width, worker_count}
+use Rattle.command_words.specs.Limits.{generated_sites, generator_number, node_limit, refine_depth, thermal_energy, window_width, worker_count}
 
 -- the names of the tasks
 abbrev pub task_name : Task → Text
@@ -30,6 +32,7 @@ task_name Range = codes "range"
 task_name Gen = codes "gen"
 task_name Truth = codes "truth"
 task_name Domain = codes "domain"
+task_name Region = codes "region"
 
 -- the names of the forms
 abbrev pub form_name : Form → Text
@@ -62,6 +65,10 @@ pub record AreGeneratedSettings (value : Text → Option Text) (g : GeneratedSet
   pub number : IsNumber generator_number (value (codes "number")) (pos g.number)
   pub sites : IsNumber generated_sites (value (codes "sites")) (pos g.sites)
 
+-- how finely tiles are cut is this value of its option
+pub record AreRegionSettings (value : Text → Option Text) (r : RegionSettings) : Type 0 where
+  pub refine : IsNumber refine_depth (value (codes "refine")) (pos r.refine)
+
 -- the settings of the report are these values of its flags
 pub record AreReportSettings (value : Text → Option Text) (r : ReportSettings) : Type 0 where
   pub json : IsGiven (value (codes "json")) r.json
@@ -77,6 +84,7 @@ pub record AreGroups (value : Text → Option Text) (s : Settings) : Type 0 wher
   pub levels : AreLevelSettings value s.levels
   pub gate : AreGateSettings value s.gate
   pub generated : AreGeneratedSettings value s.generated
+  pub region : AreRegionSettings value s.region
 
 -- the pairs and the function make a gate, and the input is a layout
 pub record HasTruthNeeds (s : Settings) : Type 0 where
@@ -88,11 +96,19 @@ pub record HasDomainNeeds (s : Settings) : Type 0 where
   pub truth : HasTruthNeeds s
   pub points : s.gate.grid ≢ None
 
+-- there is what truth tables need, and a grid whose far ends are in range as its points are
+pub record HasRegionNeeds (s : Settings) : Type 0 where
+  pub truth : HasTruthNeeds s
+  pub axes : Axes
+  pub points : s.gate.grid ≡ Some axes
+  pub far_ends : HasFarEnds axes
+
 -- what a task needs beside its input
 abbrev pub HasNeeds : Task → Settings → Type 0
 HasNeeds Range s = s.levels.range ≢ None
 HasNeeds Truth s = HasTruthNeeds s
 HasNeeds Domain s = HasDomainNeeds s
+HasNeeds Region s = HasRegionNeeds s
 HasNeeds _ s = ⊤
 
 -- these values of the options give the settings, and the task has what it needs

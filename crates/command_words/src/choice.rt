@@ -24,6 +24,7 @@ pub fn task_in(given: Option<&str>) -> Option<Task>
         Some("gen") => Some(Task::Gen),
         Some("truth") => Some(Task::Truth),
         Some("domain") => Some(Task::Domain),
+        Some("region") => Some(Task::Region),
         Some(_) => None,
     }
 }

@@ -6,9 +6,9 @@ use clap::{Arg, ArgAction, Command};
 use std::alloc::{AllocError, Global};
 
 /// The names of the options, each of which takes one text.
-const OPTION_NAMES: [&str; 19] = [
+const OPTION_NAMES: [&str; 20] = [
     "task", "form", "eps", "lambda", "depth", "gap", "coulomb", "base", "limit", "workers",
-    "window", "range", "kt", "input", "output", "function", "grid", "number", "sites",
+    "window", "range", "kt", "input", "output", "function", "grid", "number", "sites", "refine",
 ];
 
 /// The command with one more option of this name.

@@ -4,16 +4,19 @@ ghost use Rattle.clap.specs.Words.{first_value, found_of};
 ghost use Rattle.model_params.specs.declared.params.Params.{Params};
 ghost use Rattle.command_words.specs.declared.settings.GeneratedSettings.{GeneratedSettings};
 ghost use Rattle.command_words.specs.declared.settings.LevelSettings.{LevelSettings};
+ghost use Rattle.command_words.specs.declared.settings.RegionSettings.{RegionSettings};
 ghost use Rattle.command_words.specs.declared.settings.SearchSettings.{SearchSettings};
-ghost use Rattle.command_words.specs.Settings.{AreGeneratedSettings, AreLevelSettings, AreParams, AreReportSettings, AreSearchSettings};
+ghost use Rattle.command_words.specs.Settings.{AreGeneratedSettings, AreLevelSettings, AreParams, AreRegionSettings, AreReportSettings, AreSearchSettings};
 
 use crate::choice::{base_in, is_given};
 use crate::depths::range_in;
 use crate::number::{
-    GENERATED_SITES, GENERATOR_NUMBER, NODE_LIMIT, THERMAL_ENERGY, WINDOW_WIDTH, WORKER_COUNT,
-    count_in, number_in,
+    GENERATED_SITES, GENERATOR_NUMBER, NODE_LIMIT, REFINE_DEPTH, THERMAL_ENERGY, WINDOW_WIDTH,
+    WORKER_COUNT, count_in, number_in,
 };
-use crate::{GeneratedSettings, LevelSettings, Params, ReportSettings, SearchSettings};
+use crate::{
+    GeneratedSettings, LevelSettings, Params, RegionSettings, ReportSettings, SearchSettings,
+};
 use clap::ArgMatches;
 use model_params::{COULOMB_NUMBER, LEVEL_DEPTH, LEVEL_GAP, PERMITTIVITY, SCREENING_LENGTH};
 use window_model::window_of;
@@ -69,6 +72,17 @@ pub fn generated_in(matches: &ArgMatches<'_>) -> Option<GeneratedSettings>
     Some(GeneratedSettings {
         number: count_in(matches.get_str("number"), &GENERATOR_NUMBER)?,
         sites: count_in(matches.get_str("sites"), &GENERATED_SITES)?,
+    })
+}
+
+/// How finely the tiles of a rectangle are cut.
+pub fn region_in(matches: &ArgMatches<'_>) -> Option<RegionSettings>
+    ensures found { IfSome result (AreRegionSettings (first_value (found_of matches.now))) }
+    ensures none { IfNone result ((r : RegionSettings)
+        → AreRegionSettings (first_value (found_of matches.now)) r → ⊥) }
+{
+    Some(RegionSettings {
+        refine: count_in(matches.get_str("refine"), &REFINE_DEPTH)?,
     })
 }
 

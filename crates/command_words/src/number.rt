@@ -54,6 +54,14 @@ pub const GENERATED_SITES: Quantity = Quantity {
     preset: 40,
 };
 
+/// How often an undecided rectangle may be quartered.
+pub const REFINE_DEPTH: Quantity = Quantity {
+    places: 0,
+    least: 0,
+    greatest: 6,
+    preset: 2,
+};
+
 /// The number that the text gives, or the preset one where there is no text.
 pub fn number_in(given: Option<&str>, quantity: &Quantity) -> Option<i64>
     requires places { quantity.now.places ≤ 12 }

@@ -1,5 +1,6 @@
+ghost use Rattle.std.specs.Prelude.{pos};
 ghost use Rattle.model_params.specs.Quantities.{IsWithin};
-ghost use Rattle.command_words.specs.Limits.{AreEndsOfDepths, AreGeneratedNumbers, AreSearchLimits, thermal_energy};
+ghost use Rattle.command_words.specs.Limits.{AreEndsOfDepths, AreGeneratedNumbers, AreSearchLimits, refine_depth, thermal_energy};
 
 use crate::GateSettings;
 use model_params::Params;
@@ -28,6 +29,8 @@ pub enum Task {
     Truth,
     /// Prints whether a gate works, at each point of a grid.
     Domain,
+    /// Prints whether a gate works, at every point of each tile of a rectangle.
+    Region,
 }
 
 /// The form of a run's input.
@@ -83,6 +86,14 @@ pub struct GeneratedSettings {
     ghost in_range: { AreGeneratedNumbers number sites },
 }
 
+/// How finely the tiles of a rectangle are cut.
+#[derive(Clone, Copy)]
+pub struct RegionSettings {
+    /// How often an undecided rectangle may be quartered.
+    pub refine: u64,
+    ghost in_range: { IsWithin refine_depth (pos refine) },
+}
+
 /// What a report has, and how it is written.
 #[derive(Clone, Copy, Debug, PartialEq, Eq)]
 pub struct ReportSettings {
@@ -103,4 +114,5 @@ pub struct Settings {
     pub levels: LevelSettings,
     pub gate: GateSettings,
     pub generated: GeneratedSettings,
+    pub region: RegionSettings,
 }

@@ -3,12 +3,12 @@ ghost use Rattle.clap.specs.Words.{first_value, found_of};
 ghost use Rattle.command_words.specs.declared.settings.Settings.{Settings};
 ghost use Rattle.command_words.specs.Command.{full_words};
 ghost use Rattle.command_words.specs.Gates.{AreGateSettings};
-ghost use Rattle.command_words.specs.Settings.{AreGroups, AreSettings, HasDomainNeeds, HasNeeds, HasTruthNeeds, IsSettingsOf};
+ghost use Rattle.command_words.specs.Settings.{AreGroups, AreSettings, HasDomainNeeds, HasNeeds, HasRegionNeeds, HasTruthNeeds, IsSettingsOf};
 
 use crate::choice::{form_in, task_in};
 use crate::command::simple_command;
 use crate::gates::{gate_in, has_gate};
-use crate::groups::{generated_in, levels_in, params_in, report_in, search_in};
+use crate::groups::{generated_in, levels_in, params_in, region_in, report_in, search_in};
 use crate::laws::one_groups;
 use crate::{Form, GateSettings, Settings, Task};
 use clap::ArgMatches;
@@ -56,6 +56,20 @@ fn has_domain_needs(alloc: Global, settings: &Settings) -> Result<bool, Memory>
     has_truth_needs(alloc, settings)
 }
 
+// Whether the far ends of the grid are in range too, since its points are lower ends of rectangles.
+fn has_region_needs(alloc: Global, settings: &Settings) -> Result<bool, Memory>
+    ensures { IfOk result (λ has. MatchBool has (HasRegionNeeds settings.now)
+        (HasRegionNeeds settings.now → ⊥)) }
+{
+    let Some(grid) = settings.gate.grid else {
+        return Ok(false);
+    };
+    if !grid.has_far_ends() {
+        return Ok(false);
+    }
+    has_truth_needs(alloc, settings)
+}
+
 // Whether the task has what it needs.
 fn has_needs(alloc: Global, settings: &Settings) -> Result<bool, Memory>
     ensures { IfOk result (λ has. MatchBool has (HasNeeds settings.now.task settings.now)
@@ -65,6 +79,7 @@ fn has_needs(alloc: Global, settings: &Settings) -> Result<bool, Memory>
         Task::Range => Ok(settings.levels.range.is_some()),
         Task::Truth => has_truth_needs(alloc, settings),
         Task::Domain => has_domain_needs(alloc, settings),
+        Task::Region => has_region_needs(alloc, settings),
         _ => Ok(true),
     }
 }
@@ -104,6 +119,7 @@ fn groups_in(matches: &ArgMatches<'_>, gate: GateSettings) -> Option<Settings>
         report: report_in(matches),
         levels: levels_in(matches)?,
         generated: generated_in(matches)?,
+        region: region_in(matches)?,
         gate,
     })
 }

@@ -7,7 +7,7 @@ use Rattle.gate_model.specs.declared.function.Function.{Function}
 use Rattle.gate_model.specs.declared.grid.Axis.{Axis}
 use Rattle.gate_model.specs.declared.pairs.PairOf.{PairOf}
 use Rattle.gate_model.specs.Functions.{IsFunctionNamed, names_of}
-use Rattle.gate_model.specs.Grids.{Axes, HasPointsIn}
+use Rattle.gate_model.specs.Grids.{Axes, HasFarEnds, HasPointsIn}
 use Rattle.gate_model.specs.GridTexts.{IsAxisText, IsCount, IsGridText, IsStart, IsStep}
 use Rattle.gate_model.specs.Logic.{AllDiffer, AreDistinct, IsLogic}
 use Rattle.gate_model.specs.Pairs.{ArePairs, IsPair, IsPlace, parts}
@@ -84,3 +84,11 @@ no_gate_without_output is = omega (arith, is.some_output)
 
 no_gate_of_another_function : IsLogic (record wire { function = of_two false false false true }) → ⊥
 no_gate_of_another_function is = omega (arith, is.of_inputs)
+
+-- a single point at the greatest permittivity, or at the greatest screening length, has no far end
+module _ (a : Axes) where
+  no_far_end_in_eps : a.eps ≡ record { start = pos 1000000; step = pos 1; count = 1 } → HasFarEnds a → ⊥
+  no_far_end_in_eps is far = let to = rw is at far.eps.to in omega (arith, ints, to)
+
+  no_far_end_in_lam : a.lam ≡ record { start = pos 10000000; step = pos 1; count = 1 } → HasFarEnds a → ⊥
+  no_far_end_in_lam is far = let to = rw is at far.lam.to in omega (arith, ints, to)

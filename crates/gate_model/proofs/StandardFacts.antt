@@ -7,7 +7,7 @@ use Rattle.gate_model.specs.declared.function.Function.{Function}
 use Rattle.gate_model.specs.declared.grid.Axis.{Axis}
 use Rattle.gate_model.specs.declared.pairs.PairOf.{PairOf}
 use Rattle.gate_model.specs.Functions.{IsFunctionNamed}
-use Rattle.gate_model.specs.Grids.{Axes, HasPointsIn}
+use Rattle.gate_model.specs.Grids.{Axes, HasFarEnds, HasPointsIn}
 use Rattle.gate_model.specs.GridTexts.{IsAxisText, IsGridText}
 use Rattle.gate_model.specs.Logic.{AllDiffer, AreDistinct, IsLogic, Logic, logic_of}
 use Rattle.gate_model.specs.Pairs.{ArePairs, IsPair, IsPlace}
@@ -186,4 +186,11 @@ wire_is_gate = record {
   few_outputs = omega arith;
   of_inputs = refl;
   distinct = wire_differs;
+}
+
+-- its far ends are 7 and 7 nm
+pub far_ends : HasFarEnds two_by_two
+far_ends = record {
+  eps = record { from = omega (arith, ints); to = omega (arith, ints) };
+  lam = record { from = omega (arith, ints); to = omega (arith, ints) };
 }

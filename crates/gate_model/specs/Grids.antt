@@ -29,3 +29,8 @@ pub record Axes : Type 0 where
 pub record AreAxes (a : Axes) : Type 0 where
   pub eps : IsAxis permittivity a.eps
   pub lam : IsAxis screening_length a.lam
+
+-- the far end of each direction, one step behind its last point, is in the range of its quantity too
+pub record HasFarEnds (a : Axes) : Type 0 where
+  pub eps : IsWithin permittivity (point_at a.eps a.eps.count)
+  pub lam : IsWithin screening_length (point_at a.lam a.lam.count)

@@ -1,7 +1,8 @@
-ghost use Rattle.std.specs.Prelude.{◌≡◌, ◌<◌, ◌≤◌, ◌≤ℤ◌, ◌^◌, pos};
+ghost use Rattle.std.specs.Prelude.{◌≡◌, ◌↔◌, ◌+◌, ◌-◌, ◌*◌, ◌<◌, ◌≤◌, ◌≤ℤ◌, ◌^◌, pos, IsTrue};
 ghost use Rattle.model_params.specs.Quantities.{IsWithin, permittivity, screening_length};
-ghost use Rattle.gate_model.specs.Grids.{HasPointsIn, IsAxis, point_at};
+ghost use Rattle.gate_model.specs.Grids.{HasFarEnds, HasPointsIn, IsAxis, point_at};
 
+use model_params::{PERMITTIVITY, Quantity, SCREENING_LENGTH};
 use std::marker::Model;
 
 /// One direction of a grid: where it starts, its step, both in 10^-4, and how many points it has.
@@ -21,7 +22,29 @@ pub(crate) fn unsigned(number: &i64) -> u64
     *number as u64
 }
 
+/// Whether one step behind the last of so many points is still at most the greatest.
+fn has_room(start: u64, step: u64, count: u64, greatest: u64) -> bool
+    requires count { (1 ≤ count) × (count ≤ 64) }
+    requires last { start + step * (count - 1) ≤ greatest }
+    requires small { greatest ≤ 10000000 }
+    ensures { IsTrue result ↔ (start + step * count ≤ greatest) }
+{
+    step <= greatest - (start + step * (count - 1))
+}
+
 impl Axis {
+    /// Whether the far end, one step behind the last point, is in the range of the quantity.
+    fn has_far_end(&self, quantity: &Quantity) -> bool
+        requires axis { IsAxis quantity.now self.now }
+        requires least { pos 0 ≤ℤ quantity.now.least }
+        requires small { quantity.now.greatest ≤ℤ pos 10000000 }
+        ensures { IsTrue result ↔ IsWithin quantity.now (point_at self.now self.now.count) }
+    {
+        let start = unsigned(&self.start);
+        let step = unsigned(&self.step);
+        has_room(start, step, self.count, unsigned(&quantity.greatest))
+    }
+
     /// Point k, where it is at most 10^7.
     pub fn point(&self, k: u64) -> i64
         requires start { pos 0 ≤ℤ self.now.start }
@@ -83,6 +106,13 @@ impl Grid {
             step: self.lam_step,
             count: self.lam_count,
         }
+    }
+
+    /// Whether the far end of each direction, one step behind its last point, is in range too.
+    pub fn has_far_ends(&self) -> bool
+        ensures { IsTrue result ↔ HasFarEnds self.now }
+    {
+        self.eps().has_far_end(&PERMITTIVITY) && self.lam().has_far_end(&SCREENING_LENGTH)
     }
 
     /// The permittivity of the points at place k, in 10^-4.

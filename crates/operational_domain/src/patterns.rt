@@ -48,8 +48,8 @@ fn judged(shaped: &Shaped, problem: &Problem, wanted: bool, list: GroundList) ->
     }
 }
 
-/// The answer to a pattern by what solving its problem answers.
-fn solved_by(
+/// The answer to what a pattern leaves, by what solving its problem answers.
+pub fn solved_by(
     shaped: &Shaped,
     problem: &Problem,
     wanted: bool,
