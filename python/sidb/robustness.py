@@ -276,8 +276,8 @@ class Defects(Study):
         else:
             far = nanometres(bad.squared_distance)
             said.append(
-                f"At each place that is {nanometres(clear):.2f} nm or more from the nearest dot the gate works; at a "
-                f"place {far:.2f} nm away it {IN_WORDS[bad.outcome.verdict]}."
+                f"At each place that is {nanometres(clear):.4f} nm or more from the nearest dot the gate works; at a "
+                f"place {far:.4f} nm away it {IN_WORDS[bad.outcome.verdict]}."
             )
         return [*said, self._reach()]
 

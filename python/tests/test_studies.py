@@ -69,7 +69,7 @@ def test_clearance_is_the_least_distance_from_which_on_the_gate_works(inverter: 
     # the places that fail are one column from a dot, as are -1 and 15, which work; so are those at two and more
     assert found.last_bad is not None and found.last_bad.squared_distance == 384**2
     assert found.clearance == (2 * 384) ** 2
-    assert "0.77 nm" in found.sentences()[1] and "places beyond" not in found.sentences()[2]
+    assert "0.7680 nm" in found.sentences()[1] and "places beyond" not in found.sentences()[2]
 
 
 def test_clearance_is_not_told_where_a_farthest_place_fails(inverter: sidb.Gate) -> None:
