@@ -237,7 +237,7 @@ def _levels(report: Report) -> Iterator[Markup]:
     if report.levels is None:
         return
     (point,) = report.levels.points
-    wide = [part for part in point.parts if part.count >= NARROW]
+    wide = [part for part in point.parts if part.size >= NARROW]
     narrow = len(point.parts) - len(wide)
     rows = [(f"{ev_of(part.first):f}", f"{ev_of(part.last):f}", _level_verdict(report, part)) for part in wide]
     yield table(("mu_minus from (V)", "to (V)", "the gate"), rows, id="levels")

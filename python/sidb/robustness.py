@@ -245,7 +245,7 @@ class Defects(Study):
 
     @property
     def last_bad(self) -> Defect | None:
-        """The place farthest from the dots at which the gate does not work by proof."""
+        """The place farthest from the dots at which the gate is not proved to work."""
         bad = (trial for trial in self.trials if trial.outcome.verdict != "works")
         return max(bad, key=lambda trial: trial.squared_distance, default=None)
 

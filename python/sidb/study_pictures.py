@@ -88,7 +88,7 @@ def _map_axes(layout: Layout, places: Sequence[Place], width: float, title: str)
 def _points_of_a_column(ax: Any, layout: Layout, width: float) -> float:
     """How wide a column is in the picture, in points."""
     left, right = ax.get_xlim()
-    return max(abs(layout.lattice.ax), 225) / 100 * width * 72 * 0.775 / (right - left)
+    return float(max(abs(layout.lattice.ax), 225) / 100 * width * 72 * 0.775 / (right - left))
 
 
 def _points(ax: Any, layout: Layout, verdicts: Mapping[Place, str], size: float, edge: float, order: int) -> None:
@@ -214,8 +214,8 @@ def draw_domain3(study: Domain3, path: str | Path | None = None, width: float = 
 
 def _wide(parts: Sequence[Levels]) -> list[Levels]:
     """The parts that are wide enough to be seen."""
-    count = sum(part.count for part in parts)
-    return [part for part in parts if part.count * 2000 > count]
+    count = sum(part.size for part in parts)
+    return [part for part in parts if part.size * 2000 > count]
 
 
 def draw_temperatures(study: Temperatures, path: str | Path | None = None, width: float = 4.6) -> Figure:
