@@ -29,11 +29,11 @@ def or_gate() -> sidb.Gate:
 
 
 def studies_of(gate: sidb.Gate) -> dict[str, studies.Study]:
-    """Dots a place off, one at a time and three at once; and a charged defect at every second place round the gate."""
+    """Dots a place off, one at a time and three at once; and a charged defect at every third place round the gate."""
     body = range(4, 22)
     return {
         "displacements": studies.displacements(gate, sites=body, samples=40, at_once=3, seed=1),
-        "defects": studies.defects(gate, region=studies.Region.around(gate.layout, columns=8, rows=4, step=2)),
+        "defects": studies.defects(gate, region=studies.Region.around(gate.layout, columns=8, rows=4, step=3)),
         "domain3": studies.domain3(gate, sidb.Grid.of(("5.2", "0.4", 3), ("4.5", "0.5", 3)), ("0.2", "0.4")),
     }
 

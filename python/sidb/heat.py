@@ -119,10 +119,10 @@ class Temperatures(Study):
     def limits(self) -> list[str]:
         """What these numbers don't say."""
         return [
-            f"Shares are among the entries of a window of {self.window} eV alone. Each charge list that is not among them "
+            f"Shares are among the entries of a window of {self.window} eV alone. Each valid list that is not among them "
             "lies more than the window above the ground, so it would add at most exp(-window/kT) of the ground's share.",
-            "A wider window lists no fewer entries, and right and wrong ones may be among the new: the share may move either "
-            "way. Take a window of many kT, and compare with one that is wider.",
+            "A wider window lists no fewer entries, right or wrong ones, so the share may move either way: take a window of "
+            "many kT, and compare with a wider one.",
             "Nothing is said of how long the gate takes to come to these shares.",
         ]
 

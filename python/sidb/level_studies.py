@@ -41,7 +41,7 @@ class Levels(NamedTuple):
     pattern: int | None = None
 
     @property
-    def count(self) -> int:
+    def size(self) -> int:
         """How many levels these are."""
         return self.last - self.first + 1
 
@@ -176,12 +176,12 @@ class LevelPoint:
     @property
     def works(self) -> int:
         """At how many levels of 10^-12 V the gate works."""
-        return sum(part.count for part in self.parts if part.what == "works")
+        return sum(part.size for part in self.parts if part.what == "works")
 
     @property
     def levels(self) -> int:
         """How many levels there are."""
-        return sum(part.count for part in self.parts)
+        return sum(part.size for part in self.parts)
 
     def rows(self) -> list[Row]:
         """A row a part; levels in 10^-12 V."""

@@ -7,9 +7,11 @@ from collections.abc import Iterable, Iterator
 from decimal import ROUND_CEILING, ROUND_FLOOR, Decimal
 from typing import Any
 
-from . import pictures, study_pictures
-from .answers import DomainAnswer, Entry, Pattern, RegionAnswer, TruthAnswer, ev_of
-from .heat import Temperatures, kelvin
+from matplotlib.figure import Figure
+
+from . import pictures
+from .answers import DomainAnswer, Entry, Pattern, RegionAnswer, ev_of
+from .heat import kelvin
 from .level_studies import Levels
 from .markup import Markup, element, joined, page, picture, shown, table
 from .report import Certified, Gap, Report
@@ -24,16 +26,19 @@ NARROW = 1_000_000
 _STYLE = """
 @page { size: A4; margin: 11mm }
 * { box-sizing: border-box }
-body { font: 8.6pt/1.3 "DejaVu Sans", Verdana, sans-serif; color: #111; background: #fff; margin: 0 auto; max-width: 188mm }
-h1 { font-size: 15pt; margin: 0 0 1mm; overflow-wrap: anywhere } h2 { font-size: 10pt; margin: 2.5mm 0 1mm; border-bottom: 0.3mm solid #888 }
+body { font: 8.2pt/1.25 "DejaVu Sans", Verdana, sans-serif; color: #111; background: #fff; margin: 0 auto; max-width: 188mm }
+h1 { font-size: 15pt; margin: 0 0 1mm; overflow-wrap: anywhere } h2 { font-size: 9.5pt; margin: 1.5mm 0 0.8mm; border-bottom: 0.3mm solid #888 }
 h3 { font-size: 8.6pt; margin: 1.5mm 0 0.5mm } p, ul { margin: 0 0 1mm } ul { padding-left: 4mm }
 table { border-collapse: collapse; width: 100%; margin: 0 0 1mm } th, td { border: 0.2mm solid #999; padding: 0.3mm 1mm; text-align: left; vertical-align: top }
 th { background: #eee } td { overflow-wrap: anywhere } code, pre, .charges { font-family: "DejaVu Sans Mono", monospace; font-size: 7pt }
-pre { margin: 0 0 1mm; white-space: pre-wrap; overflow-wrap: anywhere } img { display: block; width: 100%; height: auto }
-figure { margin: 0; break-inside: avoid } figcaption { font-size: 7.4pt; overflow-wrap: anywhere }
-.two { display: grid; grid-template-columns: 1fr 1fr; gap: 1mm 4mm; align-items: start }
-.verdict { font-size: 10.5pt; font-weight: bold; border: 0.5mm solid #111; padding: 1mm 2mm; margin: 1mm 0 } .small { font-size: 7.4pt }
-.sites { columns: 6; column-gap: 3mm } .side + .side { break-before: page }
+pre { margin: 0 0 1mm; white-space: pre-wrap; overflow-wrap: anywhere } img { display: block; max-width: 100%; max-height: 53mm }
+figure { margin: 0; break-inside: avoid } figcaption, .small { font-size: 7pt; line-height: 1.25; overflow-wrap: anywhere }
+.two, .three { display: grid; grid-template-columns: 1fr 1fr; gap: 0.5mm 4mm; align-items: start }
+.three { grid-template-columns: 1fr 1fr 1fr; gap: 0.5mm 3mm } .second table { font-size: 6.8pt } .second img { max-height: 42mm }
+#levels td { font-size: 6.4pt; white-space: nowrap }
+.verdict { font-size: 10.5pt; font-weight: bold; border: 0.5mm solid #111; padding: 1mm 2mm; margin: 1mm 0 }
+.sites { columns: 7; column-gap: 3mm; font-size: 6.4pt; line-height: 1.15 } #commands { font-size: 6.2pt; line-height: 1.2 }
+.side + .side { break-before: page }
 @media screen { .side { padding: 4mm 0 } }
 """
 
@@ -44,11 +49,13 @@ _VERDICT_WORDS = {
     "undecided": "At this accuracy neither can be said, or no charge list is valid.",
 }
 
+_LEGEND = "A dark dot with − is negative, a white one neutral, one with + positive; a diamond is a fixed charge. Lengths in Å."
+
 
 def page_of(report: Report) -> str:
     """The whole page."""
     first = element("div", *_first_side(report), class_="side")
-    second = element("div", *_second_side(report), class_="side")
+    second = element("div", *_second_side(report), class_="side second")
     return page(report.title, _STYLE, first, second)
 
 
@@ -62,7 +69,8 @@ def _first_side(report: Report) -> Iterator[Markup]:
     yield element("h2", "Truth table")
     yield _truth_table(report)
     if report.truth is not None:
-        figures = (_pattern_figure(report.truth, pattern) for pattern in report.truth.patterns)
+        figures = (_pattern_figure(report, pattern) for pattern in report.truth.patterns)
+        yield element("p", _LEGEND, class_="small")
         yield element("div", *figures, class_="two")
 
 
@@ -74,20 +82,18 @@ def _verdict(report: Report) -> list[object]:
     return [f"{verdict}{at}. ", element("span", _VERDICT_WORDS[verdict], class_="small")]
 
 
-def _axes(width: float, height: float) -> tuple[Any, Any]:
-    return study_pictures._figure(width, height)
-
-
-def _layout_svg(subject: Any, width: float) -> str:
-    """A picture of a layout in so many inches, without a title: that stands in the page."""
-    left, right, top, bottom = pictures.scene_of(subject, 0, "", {}).frame()
-    figure, ax = _axes(width, min(max(width * (bottom - top) / (right - left), 0.6), 4) + 0.4)
-    pictures.draw(subject, ax=ax, title="", legend=False)
+def _layout_svg(report: Report, subject: Any, width: float) -> str:
+    """A picture of the gate, or of what a pattern leaves of it, in so many inches; all in one frame, without a title,
+    which stands in the page."""
+    left, right, top, bottom = pictures.scene_of(report.gate, 0, "", {}).frame()
+    figure = Figure(figsize=(width, min(max(width * (bottom - top) / (right - left), 0.6), 4) + 0.3))
+    ax = figure.subplots()
+    pictures.draw(subject, ax=ax, title="", legend=False, frame=(left, right, top, bottom))
     return pictures.svg_text(figure)
 
 
 def _layout_picture(report: Report) -> Markup:
-    return picture(_layout_svg(report.gate, 4.2), f"The layout of {report.title}: its dots, inputs, outputs and fixed charges")
+    return picture(_layout_svg(report, report.gate, 3.6), f"The layout of {report.title}: its dots, inputs, outputs and fixed charges")
 
 
 def _pairs_in_words(report: Report) -> str:
@@ -98,7 +104,7 @@ def _pairs_in_words(report: Report) -> str:
         for kind, (zero, one) in pairs
         if max(zero, one) < len(sites)
     )
-    return "Dots are circles, fixed charges diamonds; in Å. " + "; ".join(said) + "."
+    return "; ".join(said) + "."
 
 
 def _place(place: Iterable[int]) -> str:
@@ -157,53 +163,65 @@ def _bits(bits: Iterable[int | None]) -> str:
     return " ".join("no bit" if bit is None else str(bit) for bit in bits)
 
 
-def _pattern_figure(truth: TruthAnswer, pattern: Pattern) -> Markup:
-    bits = truth.gate.bits_of(pattern.number)
+def _pattern_figure(report: Report, pattern: Pattern) -> Markup:
+    bits = report.gate.bits_of(pattern.number)
     said = f"Inputs {bits}: {pattern.verdict}"
     charges = pattern.entries[0].charges if pattern.entries else "no list is valid"
-    drawn = picture(_layout_svg(pattern, 4.2), f"{said}; charges by site: {charges}")
+    drawn = picture(_layout_svg(report, pattern, 3.6), f"{said}; charges by site: {charges}")
     more = f" (entry 0 of {len(pattern.entries)})" if len(pattern.entries) > 1 else ""
     return element("figure", drawn, element("figcaption", said + more))
 
 
 def _second_side(report: Report) -> Iterator[Markup]:
-    yield element("div", *_maps(report), class_="two")
-    yield element("div", element("div", *_levels(report)), element("div", *_gaps(report)), class_="two")
+    yield element("div", *_domain(report), *_warm_figure(report), element("div", *_levels(report)), class_="three")
+    yield element("div", *_warm_table(report), element("div", *_gaps(report)), class_="two")
     if report.studies:
         yield element("h2", "Studies that were run")
-        yield element("div", *(_study(study) for study in report.studies), class_="two")
+        yield element("div", *(_study(study) for study in report.studies), class_="three")
     yield from _checks(report)
 
 
-def _maps(report: Report) -> Iterator[Markup]:
-    if report.domain is not None:
-        yield element("div", element("h2", "Domain"), _domain(report.domain))
-    if report.warm is not None:
-        yield element("div", element("h2", "Shares at a temperature"), *_warm(report.warm))
+def _domain(report: Report) -> Iterator[Markup]:
+    if report.domain is None:
+        return
+    drawn, verdicts, said = _map_of(report.domain)
+    counts = ", ".join(f"{verdicts.count(verdict)} {IN_WORDS[verdict]}" for verdict in IN_WORDS if verdict in verdicts)
+    told = f"Of {len(verdicts)}: {counts}. {said}"
+    figure = element("figure", picture(pictures.svg_text(drawn), told), element("figcaption", told, id="domain"))
+    yield element("div", element("h2", "Domain"), figure)
 
 
-def _domain(domain: DomainAnswer | RegionAnswer) -> Markup:
+def _map_of(domain: DomainAnswer | RegionAnswer) -> tuple[Any, list[str], str]:
+    """The map of a domain or of regions, its verdicts, and what they say."""
     if isinstance(domain, RegionAnswer):
-        drawn, parts = pictures.plot_regions(domain), [tile.verdict for tile in domain.tiles]
-        said = "Each tile holds at each of its points, by proof."
-    else:
-        drawn, parts = pictures.plot_domain(domain), [cell.verdict for cell in domain.cells]
-        said = "Each cell is a point of the grid; nothing is said of what lies between two points."
-    counts = ", ".join(f"{parts.count(verdict)} {IN_WORDS[verdict]}" for verdict in IN_WORDS if verdict in parts)
-    told = f"Of {len(parts)}: {counts}. {said}"
-    return element("figure", picture(pictures.svg_text(drawn), told), element("figcaption", told, id="domain"))
+        return pictures.plot_regions(domain), [tile.verdict for tile in domain.tiles], "A tile holds at each of its points."
+    said = "Each cell is a point of the grid; nothing is said of what lies between two."
+    return pictures.plot_domain(domain), [cell.verdict for cell in domain.cells], said
 
 
-def _warm(warm: Temperatures) -> Iterator[Markup]:
-    yield element("figure", picture(pictures.svg_text(warm.draw()), " ".join(warm.sentences())))
-    kts = [share.kt for share in warm.patterns[0].shares][:: max(len(warm.patterns[0].shares) // 3, 1)]
+def _warm_figure(report: Report) -> Iterator[Markup]:
+    if report.warm is not None:
+        drawn = picture(pictures.svg_text(report.warm.draw(width=3.6)), " ".join(report.warm.sentences()))
+        yield element("div", element("h2", "Shares at a temperature"), element("figure", drawn))
+
+
+def _warm_table(report: Report) -> Iterator[Markup]:
+    warm = report.warm
+    if warm is None:
+        return
+    known = sorted({share.kt for pattern in warm.patterns for share in pattern.shares})
+    kts = known[:: max(-(-len(known) // 3), 1)]
     rows = [
-        (warm.gate.bits_of(p.pattern), *(_share(share.least, share.greatest) for share in p.shares if share.kt in kts))
+        (
+            warm.gate.bits_of(p.pattern),
+            *(_share(share.least, share.greatest) for share in p.shares if share.kt in kts),
+            p.fault or f"{warm.at_least} {p.holds.in_words()}",
+        )
         for p in warm.patterns
     ]
-    head = ("inputs", *(f"{kt * 1000:f} meV".replace(".0 ", " ") + f" ({kelvin(kt)})" for kt in kts))
-    yield table(head, rows, id="shares")
-    yield element("p", " ".join(warm.sentences()), class_="small")
+    head = ("inputs", *(f"{(kt * 1000).normalize():f} meV, {kelvin(kt)}" for kt in kts), "a share of")
+    said = element("p", " ".join(warm.limits()), class_="small")
+    yield element("div", element("h2", "Share of right readings"), table(head, rows, id="shares"), said)
 
 
 def _share(least: int, greatest: int) -> str:
@@ -211,7 +229,7 @@ def _share(least: int, greatest: int) -> str:
     place = Decimal("0.0001")
     low = Decimal(least).scaleb(-9).quantize(place, ROUND_FLOOR)
     high = Decimal(greatest).scaleb(-9).quantize(place, ROUND_CEILING)
-    return f"{low} to {high}"
+    return f"{low} – {high}"
 
 
 def _levels(report: Report) -> Iterator[Markup]:
@@ -219,7 +237,7 @@ def _levels(report: Report) -> Iterator[Markup]:
     if report.levels is None:
         return
     (point,) = report.levels.points
-    wide = [part for part in point.parts if part.count >= NARROW]
+    wide = [part for part in point.parts if part.size >= NARROW]
     narrow = len(point.parts) - len(wide)
     rows = [(f"{ev_of(part.first):f}", f"{ev_of(part.last):f}", _level_verdict(report, part)) for part in wide]
     yield table(("mu_minus from (V)", "to (V)", "the gate"), rows, id="levels")
@@ -254,7 +272,7 @@ def _mev(energy: int) -> str:
 
 def _study(study: Study) -> Markup:
     said = " ".join(study.sentences())
-    drawn = picture(pictures.svg_text(study.draw()), said)
+    drawn = picture(pictures.svg_text(study.draw(width=3.6)), said)
     return element("figure", element("h3", study.title), drawn, element("figcaption", said), class_="study")
 
 

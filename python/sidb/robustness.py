@@ -245,7 +245,7 @@ class Defects(Study):
 
     @property
     def last_bad(self) -> Defect | None:
-        """The place farthest from the dots at which the gate does not work by proof."""
+        """The place farthest from the dots at which the gate is not proved to work."""
         bad = (trial for trial in self.trials if trial.outcome.verdict != "works")
         return max(bad, key=lambda trial: trial.squared_distance, default=None)
 
@@ -276,8 +276,8 @@ class Defects(Study):
         else:
             far = nanometres(bad.squared_distance)
             said.append(
-                f"At each place that is {nanometres(clear):.2f} nm or more from the nearest dot the gate works; at a "
-                f"place {far:.2f} nm away it {IN_WORDS[bad.outcome.verdict]}."
+                f"At each place that is {nanometres(clear):.4f} nm or more from the nearest dot the gate works; at a "
+                f"place {far:.4f} nm away it {IN_WORDS[bad.outcome.verdict]}."
             )
         return [*said, self._reach()]
 

@@ -80,11 +80,15 @@ def _map_axes(layout: Layout, places: Sequence[Place], width: float, title: str)
     xs, ys = _at(layout, [*places, *layout.sites, *(fix.place for fix in layout.fixed)])
     left, right, top, bottom = min(xs) - _MARGIN, max(xs) + _MARGIN, min(ys) - _MARGIN, max(ys) + _MARGIN
     figure, ax = _figure(width, min(max(width * (bottom - top) / (right - left), 1.2), 10) + 0.5)
-    pictures.draw(layout, ax=ax, title="", legend=False)
-    ax.set_xlim(left, right)
-    ax.set_ylim(bottom, top)
+    pictures.draw(layout, ax=ax, title="", legend=False, frame=(left, right, top, bottom))
     _titled(ax, title)
     return figure, ax
+
+
+def _points_of_a_column(ax: Any, layout: Layout, width: float) -> float:
+    """How wide a column is in the picture, in points."""
+    left, right = ax.get_xlim()
+    return float(max(abs(layout.lattice.ax), 225) / 100 * width * 72 * 0.775 / (right - left))
 
 
 def _points(ax: Any, layout: Layout, verdicts: Mapping[Place, str], size: float, edge: float, order: int) -> None:
@@ -127,11 +131,12 @@ def draw_displacements(study: Displacements, path: str | Path | None = None, wid
     worst = {layout.sites[site]: verdict for site, verdict in study.worst().items()}
     title = "Large: a dot by its worst verdict. Small: a place that was tried."
     figure, ax = _map_axes(layout, list(tried), width, title)
-    _points(ax, layout, tried, 2.6, 0.3, 4)
-    _points(ax, layout, worst, 7.5, 1.0, 6)
+    column = _points_of_a_column(ax, layout, width)
+    _points(ax, layout, worst, max(2.2 * column, 4.0), 0.8, 4)
+    _points(ax, layout, tried, min(max(0.6 * column, 1.2), 4.0), 0.15, 6)
     for number, place in enumerate(layout.sites):
         (x,), (y,) = _at(layout, [place])
-        ax.annotate(str(number), (x, y), (6, 4), textcoords="offset points", fontsize=6, zorder=7)
+        ax.annotate(str(number), (x, y), (1.4 * column + 2, 1), textcoords="offset points", fontsize=5.5, zorder=7)
     _legend(ax, [*tried.values(), *worst.values()])
     return _finished(figure, path)
 
@@ -142,7 +147,9 @@ def draw_defects(study: Defects, path: str | Path | None = None, width: float = 
     tried = {trial.place: trial.outcome.verdict for trial in study.trials}
     title = f"The gate with a fixed charge of {study.charge:+d} at each place".replace("-", "−")
     figure, ax = _map_axes(layout, list(tried), width, title)
-    _points(ax, layout, tried, 2.4 if len(tried) > 400 else 4.5, 0.25, 2)
+    column = _points_of_a_column(ax, layout, width)
+    step = study.region.step if study.region else 1
+    _points(ax, layout, tried, min(max(0.75 * step * column, 1.0), 5.0), 0.15, 2)
     dot = Line2D([], [], linestyle="none", marker="o", markerfacecolor="#c8c8c8", markeredgecolor="#444444", label="dot")
     _legend(ax, tried.values(), dot)
     return _finished(figure, path)
@@ -207,8 +214,8 @@ def draw_domain3(study: Domain3, path: str | Path | None = None, width: float = 
 
 def _wide(parts: Sequence[Levels]) -> list[Levels]:
     """The parts that are wide enough to be seen."""
-    count = sum(part.count for part in parts)
-    return [part for part in parts if part.count * 2000 > count]
+    count = sum(part.size for part in parts)
+    return [part for part in parts if part.size * 2000 > count]
 
 
 def draw_temperatures(study: Temperatures, path: str | Path | None = None, width: float = 4.6) -> Figure:

@@ -138,11 +138,12 @@ def test_what_the_page_says_of_the_inverter(inverter_page: Page) -> None:
     ]  # fmt: skip
     beyond = "100.000 meV (none in the window)"
     assert inverter_page.tables["gaps"][1:] == [["0", beyond, "", beyond], ["1", beyond, "", beyond]]
-    assert [row[1:] for row in inverter_page.tables["shares"][1:]] == [["1.0000 to 1.0000"] * 3] * 2 or all(
-        set(row[1:]) == {"1.0000 to 1.0000"} for row in inverter_page.tables["shares"][1:]
-    )
+    for row in inverter_page.tables["shares"][1:]:
+        assert set(row[1:-1]) == {"1.0000 – 1.0000"} and row[-1] == "0.9 holds at each kT up to 50 meV (580 K)"
+    # the level goes from -0.42 to -0.22 V, and the inverter works from -0.3575 V on
     levels = inverter_page.tables["levels"][1:]
-    assert [row[2] for row in levels] == ["works", "fails under 0"] or [row[2] for row in levels] == ["fails under 0", "works"]
+    assert [row[2] for row in levels] == ["fails under 0", "works"]
+    assert levels[0][0] == "-0.420000000000" and levels[1][0].startswith("-0.35753") and levels[1][1] == "-0.220000000000"
     assert "Of 4: 4 works" in inverter_page.named["domain"]
     assert inverter_page.named["faults"] == "None."
     parameters = {row[0]: row[1:] for row in inverter_page.tables["parameters"][1:]}

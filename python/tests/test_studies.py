@@ -69,7 +69,7 @@ def test_clearance_is_the_least_distance_from_which_on_the_gate_works(inverter: 
     # the places that fail are one column from a dot, as are -1 and 15, which work; so are those at two and more
     assert found.last_bad is not None and found.last_bad.squared_distance == 384**2
     assert found.clearance == (2 * 384) ** 2
-    assert "0.77 nm" in found.sentences()[1] and "places beyond" not in found.sentences()[2]
+    assert "0.7680 nm" in found.sentences()[1] and "places beyond" not in found.sentences()[2]
 
 
 def test_clearance_is_not_told_where_a_farthest_place_fails(inverter: sidb.Gate) -> None:
@@ -219,7 +219,7 @@ def test_levels_at_which_the_inverter_works(inverter: sidb.Gate) -> None:
     -0.3575385 V it would be negative, all three dots are, and no bit is read."""
     found = studies.domain3(inverter, sidb.Grid.of(("5.6", 1, 1), (5, 1, 1)))
     (point,) = found.points
-    wide = [part for part in point.parts if part.count > 1000]
+    wide = [part for part in point.parts if part.size > 1000]
     assert [(part.what, part.pattern) for part in wide] == [("fails", 0), ("works", None)]
     assert wide[0].first == -400_000_000_000 and wide[1].last == -200_000_000_000
     assert abs(wide[1].first + 357_538_500_000) < 1_000_000
@@ -231,7 +231,7 @@ def test_levels_at_which_the_inverter_works(inverter: sidb.Gate) -> None:
 def test_verdicts_over_levels_are_those_of_the_truth_table(or_gate: sidb.Gate) -> None:
     """At levels in the middle of parts the program's own truth table says the same."""
     (point,) = studies.domain3(or_gate, sidb.Grid.of(("5.6", 1, 1), (5, 1, 1)), ("0.3", "0.36")).points
-    wide = [part for part in point.parts if part.count > 1_000_000]
+    wide = [part for part in point.parts if part.size > 1_000_000]
     assert {part.what for part in wide} == {"works", "fails"}
     for part in wide:
         depth = Decimal(-(part.first + part.last) // 2).scaleb(-12)
