@@ -4,7 +4,7 @@
     python3 examples/gate_page.py [PAGE] [PICTURES]
 
 writes PAGE (or_gate.html), which opens in any browser, without a network; and, where a folder PICTURES is given, the
-pictures of the studies one by one, as docs/pictures has them. Needs the built program and matplotlib
+pictures of the studies one by one, as docs/pictures/python has them. Needs the built program and matplotlib
 (python/setup installs it). Takes less than a minute on four processors.
 """
 
