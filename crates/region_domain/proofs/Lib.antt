@@ -4,5 +4,6 @@ pub mod Telling
 pub mod OneTile
 pub mod SomeTile
 pub mod Gathering
+pub mod Found
 mod StandardFacts
 mod Refusals

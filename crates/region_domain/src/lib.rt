@@ -2,7 +2,11 @@
 #![tactic(auto)]
 
 mod answers;
+mod grid;
 pub mod laws;
+mod meaning;
 mod patterns;
 
 pub use answers::tile_answer;
+pub use grid::region;
+pub use meaning::GateMeaning;

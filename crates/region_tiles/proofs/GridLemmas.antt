@@ -1,16 +1,15 @@
 -- the sides of a rectangle and of a grid: their ranges, and how they follow each other
-use Rattle.std.proofs.Common.{◌≡◌, ◌∙◌, ℕ, ℤ, zero, suc, pos, negsuc, ◌+◌, ◌-◌, ◌*◌, ◌+ℤ◌, ◌*ℤ◌, ◌<◌, ◌≤◌, ◌≤ℤ◌, List, [], ◌∷◌, ◌++◌, Bool, true, false, map, unsigned_abs, refl, sym, ap, subst, arith}
+use Rattle.std.proofs.Common.{◌≡◌, ◌∙◌, ℕ, ℤ, zero, suc, pos, negsuc, ◌+◌, ◌-◌, ◌*◌, ◌+ℤ◌, ◌*ℤ◌, ◌≤◌, ◌≤ℤ◌, [], ◌∷◌, Bool, true, false, map, unsigned_abs, refl, sym, ap, subst, arith}
 use Rattle.std.specs.Prelude.{All}
 use Rattle.std.specs.List.{range_with_len}
 use Rattle.std.proofs.Math.Nat.{mul-le-mul_left}
 use Rattle.std.proofs.lemmas.Int.{ints}
 use Rattle.std.proofs.lemmas.List.FromFn.{map-range_with_len_more}
-use Rattle.std.proofs.lemmas.List.Elements.{All-append, All-cons, All-map, All-nil}
+use Rattle.std.proofs.lemmas.List.Elements.{All-append, All-cons, All-nil}
 use Rattle.model_params.specs.declared.quantity.Quantity.{Quantity}
 use Rattle.model_params.specs.Quantities.{IsWithin, permittivity, screening_length}
 use Rattle.gate_model.specs.declared.grid.Axis.{Axis}
 use Rattle.gate_model.specs.Grids.{IsAxis, point_at}
-use Rattle.screened_coulomb.specs.Potential.{eps_of, lam_of}
 use Rattle.parameter_regions.specs.declared.rectangles.Rectangle.{Rectangle}
 use Rattle.region_tiles.specs.declared.sides.Side.{Side}
 use Rattle.region_tiles.specs.Sides.{IsSideWithin, between, halves_of, is_cut, middle_of, span_of, step_at, steps_of}
@@ -90,7 +89,8 @@ module _ (axis : Axis) (start : pos 0 ≤ℤ axis.start) (step : pos 0 ≤ℤ ax
       let b = unsigned_abs (point_at axis (n + 1 + 1)) in
       let both = more_steps a m b (map (step_at axis) (range_with_len 0 (n + 1))) (points_rise (n + 1) (n + 1 + 1) (omega arith)) (steps_to n) in
       let listed = map-range_with_len_more (step_at axis) 0 (n + 1) (n + 1) (omega arith) in
-      subst (AreSteps (between a b)) (sym listed) both
+      let next : n + 1 ≡ suc n = omega arith in
+      subst (λ (k : ℕ). AreSteps (between a (unsigned_abs (point_at axis (k + 1)))) (map (step_at axis) (range_with_len 0 (k + 1)))) next (subst (AreSteps (between a b)) (sym listed) both)
 
   pub steps_are_steps : 1 ≤ axis.count → AreSteps (span_of axis) (steps_of axis)
   steps_are_steps some =
@@ -119,10 +119,11 @@ module _ (axis : Axis) (start : pos 0 ≤ℤ axis.start) (step : pos 0 ≤ℤ ax
       upto zero le = All-nil (IsSideWithin q)
       upto (suc n) le =
           let one : IsSideWithin q (step_at axis n) = side_within q (point_at axis n) (point_at axis (n + 1)) least
-              (between_ends q n axis.count (omega (arith, le)) first last) (between_ends q (n + 1) axis.count (omega (arith, le)) first last) (points_rise_too n (n + 1) (omega arith)) in
+          (between_ends q n axis.count (omega (arith, le)) first last) (between_ends q (n + 1) axis.count (omega (arith, le)) first last) (points_rise_too n (n + 1) (omega arith)) in
           let both = All-append (IsSideWithin q) (map (step_at axis) (range_with_len 0 n)) (step_at axis n ∷ []) (upto n (omega (arith, le))) (All-cons (IsSideWithin q) (step_at axis n) [] one (All-nil (IsSideWithin q))) in
           let listed = map-range_with_len_more (step_at axis) 0 n n (omega arith) in
-          subst (All (IsSideWithin q)) (sym listed) both
+          let next : n + 1 ≡ suc n = omega arith in
+          subst (λ (k : ℕ). All (IsSideWithin q) (map (step_at axis) (range_with_len 0 k))) next (subst (All (IsSideWithin q)) (sym listed) both)
 
   pub span_within : (q : Quantity) → pos 0 ≤ℤ q.least → IsWithin q (point_at axis 0) → IsWithin q (point_at axis axis.count) → IsSideWithin q (span_of axis)
   span_within q least first last = side_within q (point_at axis 0) (point_at axis axis.count) least first last (points_rise_too 0 axis.count (omega arith))

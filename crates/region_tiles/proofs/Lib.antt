@@ -7,3 +7,4 @@ pub mod RectangleLemmas
 pub mod GridLemmas
 pub mod AreaLemmas
 pub mod RefinedLemmas
+pub mod CodeLemmas

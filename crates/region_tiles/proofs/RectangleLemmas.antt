@@ -1,10 +1,9 @@
 -- rectangles by their sides: at most one, at least one, and those of sides that follow each other are tiles
-use Rattle.std.proofs.Common.{◌≡◌, ◌∙◌, ℕ, ℤ, pos, negsuc, ◌+◌, ◌-◌, ◌*◌, ◌<◌, ◌≤◌, ◌≤ℤ◌, ◌⊎◌, inl, inr, List, unsigned_abs, refl, sym, ap, ap₂, subst, arith}
+use Rattle.std.proofs.Common.{◌≡◌, ◌∙◌, ℕ, ℤ, pos, negsuc, ◌*◌, ◌<◌, ◌≤◌, ◌≤ℤ◌, inl, inr, List, unsigned_abs, refl, sym, ap, ap₂, subst, arith}
 use Rattle.std.proofs.Props.{props}
 use Rattle.std.proofs.Math.Nat.{mul-le-mul_right}
 use Rattle.std.proofs.lemmas.Int.{ints}
-use Rattle.std.specs.Prelude.{All, AllPairs, Contains, sum_by}
-use Rattle.std.specs.List.{AllZip}
+use Rattle.std.specs.Prelude.{All, Contains}
 use Rattle.std.proofs.lemmas.List.Elements.{All-weaker}
 use Rattle.model_params.specs.declared.params.Params.{Params}
 use Rattle.model_params.specs.Params.{AreInRange}
@@ -18,10 +17,10 @@ use Rattle.region_tiles.specs.Alike.{AreAlike}
 use Rattle.region_tiles.specs.declared.sides.Side.{Side}
 use Rattle.region_tiles.specs.Sides.{IsSideWithin, length_of}
 use Rattle.region_tiles.specs.Rectangles.{AreRectangles, HasSides, Sides, eps_side, lam_side, rows_of, sides_of}
-use Rattle.region_tiles.specs.Tiles.{AreApart, AreTiles, IsInside, IsPart, area_of}
+use Rattle.region_tiles.specs.Tiles.{AreApart, AreTiles, IsPart, area_of}
 use Rattle.region_tiles.proofs.ListLemmas.{zip_all, zip_contains, zip_pairs, zip_sum}
 use Rattle.region_tiles.proofs.SideLemmas.{AreSteps, HasNumber, LiesIn}
-use Rattle.region_tiles.proofs.RowLemmas.{AreBeside, every, rows_all, rows_apart, rows_contain, rows_size, size_of}
+use Rattle.region_tiles.proofs.RowLemmas.{AreBeside, rows_all, rows_apart, rows_contain, rows_size, size_of}
 
 -- the numbers of parameters
 record Numbers : Type 0 where
@@ -112,7 +111,12 @@ pub a_rectangle : (p : Params) (e l : Side) → IsSideWithin permittivity e → 
 a_rectangle p e l eps lam =
     let in_range = p.in_range in
     let weakest : Params = record {
-      coulomb = p.coulomb; eps = pos e.to; lam = pos l.from; depth = p.depth; gap = p.gap; base = p.base;
+      coulomb = p.coulomb;
+      eps = pos e.to;
+      lam = pos l.from;
+      depth = p.depth;
+      gap = p.gap;
+      base = p.base;
       in_range = record {
         coulomb_within = in_range.coulomb_within;
         eps_within = record { from = omega (arith, ints, eps.from, eps.order); to = eps.to };
@@ -124,7 +128,12 @@ a_rectangle p e l eps lam =
       };
     } in
     let strongest : Params = record {
-      coulomb = p.coulomb; eps = pos e.from; lam = pos l.to; depth = p.depth; gap = p.gap; base = p.base;
+      coulomb = p.coulomb;
+      eps = pos e.from;
+      lam = pos l.to;
+      depth = p.depth;
+      gap = p.gap;
+      base = p.base;
       in_range = record {
         coulomb_within = in_range.coulomb_within;
         eps_within = record { from = eps.from; to = omega (arith, ints, eps.order, eps.to) };

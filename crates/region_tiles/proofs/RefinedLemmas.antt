@@ -1,12 +1,12 @@
 -- the tiles of a rectangle and of a grid: at most one list, at least one, and they tile it
-use Rattle.std.proofs.Common.{◌≡◌, ◌∙◌, ℕ, ◌+◌, ◌-◌, ◌*◌, ◌^◌, ◌<◌, ◌≤◌, zero, suc, pos, ◌≤ℤ◌, Bool, true, false, List, [], ◌∷◌, ◌++◌, map, refl, sym, ap, ap₂, subst, arith}
+use Rattle.std.proofs.Common.{◌≡◌, ◌∙◌, ℕ, ◌+◌, ◌-◌, ◌^◌, ◌<◌, ◌≤◌, zero, suc, Bool, true, false, List, [], ◌∷◌, ◌++◌, map, refl, sym, ap, subst, arith}
 use Rattle.std.proofs.lemmas.Int.{ints}
 use Rattle.std.proofs.Math.Nat.{mul-le-mul}
 use Rattle.std.specs.Prelude.{All, MatchBool, flat_map, sum_by}
 use Rattle.std.specs.List.{AllZip}
 use Rattle.std.proofs.lemmas.List.{map-append}
 use Rattle.std.proofs.lemmas.List.Sums.{sum_by-cons}
-use Rattle.std.proofs.lemmas.List.Elements.{All-append, All-cons, All-head, All-nil, All-tail}
+use Rattle.std.proofs.lemmas.List.Elements.{All-append, All-cons, All-nil}
 use Rattle.model_params.specs.declared.params.Params.{Params}
 use Rattle.model_params.specs.Quantities.{permittivity, screening_length}
 use Rattle.gate_model.specs.Grids.{AreAxes, Axes, HasFarEnds}
@@ -19,7 +19,7 @@ use Rattle.region_tiles.specs.Sides.{IsSideWithin, halves_of, span_of, steps_of}
 use Rattle.region_tiles.specs.Rectangles.{AreGridRectangles, AreParts, AreRectangles, HasSides, IsGridWhole, Sides, eps_side, lam_side, rows_of, sides_of}
 use Rattle.region_tiles.specs.Tiles.{AreJudgedTiles, AreTiles, area_of, rectangles_in}
 use Rattle.region_tiles.specs.Areas.{whole_area}
-use Rattle.region_tiles.specs.Refined.{AreGridTiles, AreJoined, AreOfParts, IsAlone, IsCutWhereOpen, IsRefined, goes_on, tile_of}
+use Rattle.region_tiles.specs.Refined.{AreGridTiles, AreJoined, AreOfParts, IsRefined, goes_on, tile_of}
 use Rattle.region_tiles.proofs.ListLemmas.{zip_map, zip_one, zip_some, zip_weaker}
 use Rattle.region_tiles.proofs.TileLemmas.{one_tile}
 use Rattle.region_tiles.proofs.ManyTiles.{many_tiles}
@@ -69,28 +69,31 @@ some_whole p a axes far =
     (span_within a.eps (start_above permittivity a.eps (omega (arith, ints)) axes.eps) (step_above permittivity a.eps axes.eps) permittivity (omega (arith, ints)) (first_within permittivity a.eps axes.eps) far.eps)
     (span_within a.lam (start_above screening_length a.lam (omega (arith, ints)) axes.lam) (step_above screening_length a.lam axes.lam) screening_length (omega (arith, ints)) (first_within screening_length a.lam axes.lam) far.lam)
 
+-- each rectangle has at most one list of tiles
+abbrev IsOnce : (Rectangle → List Tile → Type 0) → Type 0
+IsOnce refined = (r : Rectangle) (xs ys : List Tile) → refined r xs → refined r ys → xs ≡ ys
+
 -- one list of tiles
 module _ (says : Rectangle → CellAnswer → Type 0) (one : (r : Rectangle) (a b : CellAnswer) → says r a → says r b → a ≡ b) where
-  joined_once : (refined : Rectangle → List Tile → Type 0) → ((r : Rectangle) (xs ys : List Tile) → refined r xs → refined r ys → xs ≡ ys)
-      → (rs : List Rectangle) (xs ys : List Tile) → AreJoined refined rs xs → AreJoined refined rs ys → xs ≡ ys
+  joined_once : (refined : Rectangle → List Tile → Type 0) → IsOnce refined → (rs : List Rectangle) (xs ys : List Tile) → AreJoined refined rs xs → AreJoined refined rs ys → xs ≡ ys
   joined_once refined once rs xs ys a b =
       a.joined ∙ ap (λ (ls : List (List Tile)). flat_map (λ ts. ts) ls) (zip_one refined once rs a.lists b.lists a.each b.each) ∙ sym b.joined
 
   pub one_refined : (depth : ℕ) (r : Rectangle) (xs ys : List Tile) → IsRefined says depth r xs → IsRefined says depth r ys → xs ≡ ys
   one_refined zero r xs ys a b = a.tile ∙ ap (λ (answer : CellAnswer). tile_of r answer ∷ []) (one r a.answer b.answer a.said b.said) ∙ sym b.tile
   one_refined (suc depth) r xs ys a b =
-      by (goes_on r a.answer) a.tiled
+      by (one_refined depth) (goes_on r a.answer) a.tiled
       (subst (λ (answer : CellAnswer). MatchBool (goes_on r answer) (AreOfParts (IsRefined says depth) r ys) (ys ≡ tile_of r answer ∷ [])) (one r b.answer a.answer b.said a.said) b.tiled)
     where
-      of_parts : AreOfParts (IsRefined says depth) r xs → AreOfParts (IsRefined says depth) r ys → xs ≡ ys
-      of_parts left right =
+      of_parts : IsOnce (IsRefined says depth) → AreOfParts (IsRefined says depth) r xs → AreOfParts (IsRefined says depth) r ys → xs ≡ ys
+      of_parts below left right =
           let same = one_list r.weakest (halves_of (eps_side r)) (halves_of (lam_side r)) right.parts left.parts right.of_cut left.of_cut in
-          joined_once (IsRefined says depth) (λ q vs ws v w. one_refined depth q vs ws v w) left.parts xs ys left.of_parts
+          joined_once (IsRefined says depth) below left.parts xs ys left.of_parts
           (subst (λ (ps : List Rectangle). AreJoined (IsRefined says depth) ps ys) same right.of_parts)
 
-      by : (further : Bool) → MatchBool further (AreOfParts (IsRefined says depth) r xs) (xs ≡ tile_of r a.answer ∷ []) → MatchBool further (AreOfParts (IsRefined says depth) r ys) (ys ≡ tile_of r a.answer ∷ []) → xs ≡ ys
-      by true left right = of_parts left right
-      by false left right = left ∙ sym right
+      by : IsOnce (IsRefined says depth) → (further : Bool) → MatchBool further (AreOfParts (IsRefined says depth) r xs) (xs ≡ tile_of r a.answer ∷ []) → MatchBool further (AreOfParts (IsRefined says depth) r ys) (ys ≡ tile_of r a.answer ∷ []) → xs ≡ ys
+      by below true left right = of_parts below left right
+      by below false left right = left ∙ sym right
 
   pub one_grid : (p : Params) (a : Axes) (depth : ℕ) (xs ys : List Tile) → AreGridTiles says p a depth xs → AreGridTiles says p a depth ys → xs ≡ ys
   one_grid p a depth xs ys left right =
@@ -109,15 +112,15 @@ module _ (says : Rectangle → CellAnswer → Type 0) (some : (r : Rectangle) �
   some_refined zero r =
       let answer = some r in
       (tile_of r answer.0 ∷ [], record { answer = answer.0; said = answer.1; tile = refl })
-  some_refined (suc depth) r = by (some r).0 (some r).1 (goes_on r (some r).0) refl
+  some_refined (suc depth) r = by (some_refined depth) (some r).0 (some r).1 (goes_on r (some r).0) refl
     where
-      by : (answer : CellAnswer) → says r answer → (further : Bool) → goes_on r answer ≡ further → (tiles : List Tile) × IsRefined says (suc depth) r tiles
-      by answer said true is =
+      by : ((q : Rectangle) → (tiles : List Tile) × IsRefined says depth q tiles) → (answer : CellAnswer) → says r answer → (further : Bool) → goes_on r answer ≡ further → (tiles : List Tile) × IsRefined says (suc depth) r tiles
+      by below answer said true is =
           let parts = some_parts r in
-          let joined = joined_somehow (IsRefined says depth) (some_refined depth) parts.0 in
+          let joined = joined_somehow (IsRefined says depth) below parts.0 in
           let tiled : AreOfParts (IsRefined says depth) r joined.0 = record { parts = parts.0; of_cut = parts.1; of_parts = joined.1 } in
           (joined.0, record { answer = answer; said = said; tiled = rw is tiled })
-      by answer said false is =
+      by below answer said false is =
           let tiled : tile_of r answer ∷ [] ≡ tile_of r answer ∷ [] = refl in
           (tile_of r answer ∷ [], record { answer = answer; said = said; tiled = rw is tiled })
 
@@ -160,11 +163,11 @@ module _ (says : Rectangle → CellAnswer → Type 0) where
 
   pub refined_judged : (depth : ℕ) (r : Rectangle) (tiles : List Tile) → IsRefined says depth r tiles → AreJudgedTiles says r tiles
   refined_judged zero r tiles is = alone_judged r is.answer tiles is.said is.tile
-  refined_judged (suc depth) r tiles is = by (goes_on r is.answer) is.tiled
+  refined_judged (suc depth) r tiles is = by (refined_judged depth) (goes_on r is.answer) is.tiled
     where
-      by : (further : Bool) → MatchBool further (AreOfParts (IsRefined says depth) r tiles) (tiles ≡ tile_of r is.answer ∷ []) → AreJudgedTiles says r tiles
-      by true parts = joined_judged r parts.parts tiles (IsRefined says depth) (refined_judged depth) (parts_tile r parts.parts parts.of_cut) parts.of_parts
-      by false alone = alone_judged r is.answer tiles is.said alone
+      by : ((q : Rectangle) (ts : List Tile) → IsRefined says depth q ts → AreJudgedTiles says q ts) → (further : Bool) → MatchBool further (AreOfParts (IsRefined says depth) r tiles) (tiles ≡ tile_of r is.answer ∷ []) → AreJudgedTiles says r tiles
+      by below true parts = joined_judged r parts.parts tiles (IsRefined says depth) below (parts_tile r parts.parts parts.of_cut) parts.of_parts
+      by below false alone = alone_judged r is.answer tiles is.said alone
 
   pub grid_judged : (p : Params) (a : Axes) (depth : ℕ) (whole : Rectangle) (tiles : List Tile) → AreAxes a → IsGridWhole p a whole → AreGridTiles says p a depth tiles → AreJudgedTiles says whole tiles
   grid_judged p a depth whole tiles axes is are = joined_judged whole are.rectangles tiles (IsRefined says depth) (refined_judged depth) (grid_tiles p a whole are.rectangles axes is are.of_grid) are.refined

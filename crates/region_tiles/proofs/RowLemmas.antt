@@ -1,9 +1,9 @@
 -- each side of permittivity with each of screening length
-use Rattle.std.proofs.Common.{◌≡◌, ◌∙◌, ℕ, zero, suc, ◌+◌, ◌*◌, ◌<◌, ◌≤◌, ◌⊎◌, inl, inr, List, [], ◌∷◌, ◌++◌, map, refl, sym, ap, ap₂, subst, arith}
-use Rattle.std.specs.Prelude.{All, AllPairs, Contains, flat_map, sum_by}
+use Rattle.std.proofs.Common.{◌≡◌, ℕ, zero, suc, ◌*◌, ◌⊎◌, inl, inr, List, [], ◌∷◌, map, sym, ap, subst, arith}
+use Rattle.std.specs.Prelude.{All, AllPairs, Contains, sum_by}
 use Rattle.std.proofs.lemmas.List.Sums.{sum_by-append, sum_by-cons}
 use Rattle.std.proofs.lemmas.List.Kept.{AllPairs-cons}
-use Rattle.std.proofs.lemmas.List.Elements.{All-append, All-cons, All-head, All-map, All-nil, All-tail, All-weaker, Contains-append_left, Contains-append_right}
+use Rattle.std.proofs.lemmas.List.Elements.{All-append, All-head, All-map, All-nil, All-tail, All-weaker, Contains-append_left, Contains-append_right}
 use Rattle.region_tiles.specs.declared.sides.Side.{Side}
 use Rattle.region_tiles.specs.Sides.{length_of}
 use Rattle.region_tiles.specs.Rectangles.{Sides, rows_of, sides_of}

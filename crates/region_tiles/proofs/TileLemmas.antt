@@ -1,5 +1,5 @@
 -- parts of parts, and a rectangle as its own tile
-use Rattle.std.proofs.Common.{◌≡◌, ◌∙◌, ℕ, zero, suc, ◌*◌, ◌≤◌, [], ◌∷◌, refl, arith}
+use Rattle.std.proofs.Common.{◌∙◌, ℕ, ◌*◌, ◌≤◌, [], ◌∷◌, refl, arith}
 use Rattle.std.proofs.Math.Nat.{mul-le-mul_right}
 use Rattle.std.proofs.lemmas.List.Elements.{All-cons, All-nil}
 use Rattle.screened_coulomb.specs.Potential.{eps_of, lam_of}

@@ -1,8 +1,8 @@
 ghost use Rattle.std.specs.Prelude.{◌≡◌, ◌+◌, ◌^◌, ◌<◌, ◌≤◌};
 ghost use Rattle.region_tiles.specs.Areas.{area_where, fails, failing_area, open_area, stays_open, whole_area, working_area, works};
 
+use crate::Tile;
 use crate::cutting::area;
-use crate::{Tile};
 use bdl_pairs::CellAnswer;
 
 /// The areas of the tiles that work, that fail and that stay open, in units of 10^-4 times 10^-4 nm.
@@ -96,19 +96,31 @@ fn open_area(tiles: &[Tile]) -> u64
 fn where_works(tile: &Tile) -> u64
     ensures { result ≡ area_where works tile.now }
 {
-    if works(tile.answer) { area(&tile.rectangle) } else { 0 }
+    if works(tile.answer) {
+        area(&tile.rectangle)
+    } else {
+        0
+    }
 }
 
 /// The area of a tile that fails, and else 0.
 fn where_fails(tile: &Tile) -> u64
     ensures { result ≡ area_where fails tile.now }
 {
-    if fails(tile.answer) { area(&tile.rectangle) } else { 0 }
+    if fails(tile.answer) {
+        area(&tile.rectangle)
+    } else {
+        0
+    }
 }
 
 /// The area of a tile that stays open, and else 0.
 fn where_open(tile: &Tile) -> u64
     ensures { result ≡ area_where stays_open tile.now }
 {
-    if stays_open(tile.answer) { area(&tile.rectangle) } else { 0 }
+    if stays_open(tile.answer) {
+        area(&tile.rectangle)
+    } else {
+        0
+    }
 }

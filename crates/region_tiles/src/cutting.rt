@@ -58,7 +58,10 @@ fn eps_side(r: &Rectangle) -> Side
     ensures value { result ≡ eps_side r.now }
     ensures within { IsSideWithin permittivity result }
 {
-    Side { from: r.strongest.eps as u64, to: r.weakest.eps as u64 }
+    Side {
+        from: r.strongest.eps as u64,
+        to: r.weakest.eps as u64,
+    }
 }
 
 /// The screening lengths of a rectangle.
@@ -66,7 +69,10 @@ fn lam_side(r: &Rectangle) -> Side
     ensures value { result ≡ lam_side r.now }
     ensures within { IsSideWithin screening_length result }
 {
-    Side { from: r.weakest.lam as u64, to: r.strongest.lam as u64 }
+    Side {
+        from: r.weakest.lam as u64,
+        to: r.strongest.lam as u64,
+    }
 }
 
 /// The rectangles of these sides, permittivity outer and screening length inner.

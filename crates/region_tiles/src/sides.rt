@@ -44,8 +44,14 @@ fn two_halves(alloc: Global, side: Side) -> Result<Vec<Side>, Memory>
 {
     let middle = (side.from + side.to) / 2;
     let mut halves = Vec::new(alloc);
-    halves.push(Side { from: side.from, to: middle })?;
-    halves.push(Side { from: middle, to: side.to })?;
+    halves.push(Side {
+        from: side.from,
+        to: middle,
+    })?;
+    halves.push(Side {
+        from: middle,
+        to: side.to,
+    })?;
     Ok(halves)
 }
 
@@ -59,11 +65,11 @@ fn alone(alloc: Global, side: Side) -> Result<Vec<Side>, Memory>
 }
 
 /// A number that is at least 0.
-fn natural(number: i64) -> u64
-    requires { pos 0 ≤ℤ number }
-    ensures { number ≡ pos result }
+fn natural(number: &i64) -> u64
+    requires { pos 0 ≤ℤ number.now }
+    ensures { number.now ≡ pos result }
 {
-    number as u64
+    *number as u64
 }
 
 /// The side from point k of a direction to the next.
@@ -72,7 +78,10 @@ fn step_from(start: u64, step: u64, count: u64, k: u64) -> Side
     requires small { start + step * count ≤ 10000000 }
     ensures { result ≡ between (start + step * k) (start + step * (k + 1)) }
 {
-    Side { from: start + step * k, to: start + step * (k + 1) }
+    Side {
+        from: start + step * k,
+        to: start + step * (k + 1),
+    }
 }
 
 /// The sides of a direction of a grid, one from each of its points.
@@ -82,8 +91,8 @@ pub(crate) fn steps_of(alloc: Global, axis: &Axis) -> Result<Vec<Side>, Memory>
     requires small { point_at axis.now axis.now.count ≤ℤ pos 10000000 }
     ensures { IfOk result (λ steps. steps.items ≡ steps_of axis.now) }
 {
-    let start = natural(axis.start);
-    let step = natural(axis.step);
+    let start = natural(&axis.start);
+    let step = natural(&axis.step);
     let mut steps = Vec::new(alloc);
     for k in 0..axis.count {
         steps.push(step_from(start, step, axis.count, k))?;

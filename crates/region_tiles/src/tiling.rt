@@ -63,7 +63,10 @@ fn add_tiles<J: Judge>(
 {
     let answer = judge.judge(rectangle)?;
     if depth == 0 || !goes_on(rectangle, answer) {
-        tiles.push(Tile { rectangle: *rectangle, answer })?;
+        tiles.push(Tile {
+            rectangle: *rectangle,
+            answer,
+        })?;
         return Ok(());
     }
     let parts = parts_of(alloc, rectangle)?;
