@@ -10,6 +10,7 @@ mod patterns;
 mod truth;
 mod truth_lines;
 
+pub use answers::answer_text;
 pub use domain::domain_json;
 pub use domain_lines::domain_text;
 pub use generated::gen_text;

@@ -8,3 +8,5 @@ pub mod GridLemmas
 pub mod AreaLemmas
 pub mod RefinedLemmas
 pub mod CodeLemmas
+pub mod StandardFacts
+mod Refusals

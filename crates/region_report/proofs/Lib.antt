@@ -1,0 +1,4 @@
+pub mod Behind
+pub mod NoFloats
+mod StandardFacts
+mod Refusals

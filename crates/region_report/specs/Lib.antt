@@ -1,0 +1,3 @@
+pub use Rattle.region_tiles.specs.Areas
+pub mod RegionText
+pub mod RegionJson
