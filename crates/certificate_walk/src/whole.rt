@@ -5,7 +5,7 @@ ghost use Rattle.sidb_io.specs.Outside.{HasFault};
 ghost use Rattle.sidb_units.specs.declared.TheConstants.{MAX_NODES};
 ghost use Rattle.window_model.specs.Windows.{IsMarkedWindowList};
 ghost use Rattle.certificate_model.specs.declared.token.Token.{Token as TokenData};
-ghost use Rattle.token_sinks.specs.Taking.{IsFault};
+ghost use Rattle.token_sinks.specs.Taking.{IsFault, OnlyFaultRaises};
 ghost use Rattle.walk_model.specs.Walks.{raised_bound, AreWalked};
 ghost use Rattle.certificate_walk.specs.Walking.{AreTokensOf, HasRoomFor, IsFedAll};
 
@@ -33,7 +33,7 @@ fn walk_tree<T: TokenSink>(alloc: Global, guide: &Guide, sink: &mut T) -> Result
         (T.stands_for sink.old) (T.stands_for sink.new) (T.refused sink.new) result }
     ensures nodes { IfOk result (λ n. n ≡ node_count guide.now.problem guide.now.threshold) }
     ensures fault { IsFault result → HasFault (T.faults sink.old) (T.faults sink.new) }
-    ensures counts { T.faults sink.old ≤ T.faults sink.new }
+    ensures counts { OnlyFaultRaises (T.faults sink.old) (T.faults sink.new) result }
     ensures over { T.over sink.new ≡ T.over sink.old }
 {
     nodes_count_their_children();
@@ -80,7 +80,7 @@ pub fn walk_within<T: TokenSink>(
     ensures nodes { IfOk result
         (λ n. n ≡ node_count problem.now (raised_bound window.width bound)) }
     ensures fault { IsFault result → HasFault (T.faults tokens.old) (T.faults tokens.new) }
-    ensures counts { T.faults tokens.old ≤ T.faults tokens.new }
+    ensures counts { OnlyFaultRaises (T.faults tokens.old) (T.faults tokens.new) result }
     ensures over { T.over tokens.new ≡ T.over tokens.old }
 {
     each_problem_has_written_tokens();
@@ -114,7 +114,7 @@ pub fn walk<T: TokenSink>(
         (T.stands_for tokens.old) (T.stands_for tokens.new) (T.refused tokens.new) result }
     ensures nodes { IfOk result (λ n. n ≡ node_count problem.now bound) }
     ensures fault { IsFault result → HasFault (T.faults tokens.old) (T.faults tokens.new) }
-    ensures counts { T.faults tokens.old ≤ T.faults tokens.new }
+    ensures counts { OnlyFaultRaises (T.faults tokens.old) (T.faults tokens.new) result }
     ensures over { T.over tokens.new ≡ T.over tokens.old }
 {
     marks_at_zero_are_ground_marks();

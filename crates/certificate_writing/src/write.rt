@@ -5,7 +5,7 @@ ghost use Rattle.sidb_io.specs.Outside.{HasFault};
 ghost use Rattle.sidb_units.specs.declared.TheConstants.{MAX_NODES};
 ghost use Rattle.certificate_model.specs.declared.token.Token.{Token};
 ghost use Rattle.walk_model.specs.Walks.{AreWalked};
-ghost use Rattle.token_sinks.specs.Taking.{IsFault};
+ghost use Rattle.token_sinks.specs.Taking.{IsFault, OnlyFaultRaises};
 ghost use Rattle.token_writer.specs.Writing.{TookLines};
 ghost use Rattle.prune_certificate.specs.Printed.{head_text};
 ghost use Rattle.certificate_writing.specs.Writing.{IsTextUpTo, TookText};
@@ -26,7 +26,7 @@ use token_writer::laws::fed_lines_are_written;
 fn write_bytes<K: Sink>(sink: &mut K, bytes: &[u8]) -> Result<(), Stop>
     ensures took { TookText (K.written sink.old) bytes.now (K.written sink.new) result }
     ensures fault { IsFault result → HasFault (K.faults sink.old) (K.faults sink.new) }
-    ensures counts { K.faults sink.old ≤ K.faults sink.new }
+    ensures counts { OnlyFaultRaises (K.faults sink.old) (K.faults sink.new) result }
 {
     match write_all(sink, bytes) {
         Ok(()) => Ok(()),
@@ -44,7 +44,7 @@ fn write_head<K: Sink>(
     ensures took { TookText (K.written sink.old) (head_text problem.now list.now)
         (K.written sink.new) result }
     ensures fault { IsFault result → HasFault (K.faults sink.old) (K.faults sink.new) }
-    ensures counts { K.faults sink.old ≤ K.faults sink.new }
+    ensures counts { OnlyFaultRaises (K.faults sink.old) (K.faults sink.new) result }
 {
     let head = match print_head(alloc, problem, list) {
         Ok(head) => head,
@@ -69,7 +69,7 @@ fn write_walk<K: Sink>(
         → TookLines (K.written sink.old) tokens (K.written sink.new) result }
     ensures nodes { IfOk result (λ n. n ≡ node_count problem.now bound) }
     ensures fault { IsFault result → HasFault (K.faults sink.old) (K.faults sink.new) }
-    ensures counts { K.faults sink.old ≤ K.faults sink.new }
+    ensures counts { OnlyFaultRaises (K.faults sink.old) (K.faults sink.new) result }
 {
     fed_lines_are_written();
     let mut writer = TokenWriter::new(sink);
@@ -93,7 +93,7 @@ pub fn write_certificate<K: Sink>(
         → TookText (K.written sink.old) text (K.written sink.new) result }
     ensures nodes { IfOk result (λ n. n ≡ node_count problem.now bound) }
     ensures fault { IsFault result → HasFault (K.faults sink.old) (K.faults sink.new) }
-    ensures counts { K.faults sink.old ≤ K.faults sink.new }
+    ensures counts { OnlyFaultRaises (K.faults sink.old) (K.faults sink.new) result }
 {
     token_lines_are_the_end();
     match write_head(alloc, problem, list, sink) {

@@ -5,7 +5,7 @@ ghost use Rattle.sidb_io.specs.Outside.{HasFault};
 ghost use Rattle.sidb_units.specs.declared.TheConstants.{MAX_NODES};
 ghost use Rattle.window_model.specs.Windows.{IsWindow, IsMarkedWindowList};
 ghost use Rattle.certificate_model.specs.declared.token.Token.{Token};
-ghost use Rattle.token_sinks.specs.Taking.{IsFault};
+ghost use Rattle.token_sinks.specs.Taking.{IsFault, OnlyFaultRaises};
 ghost use Rattle.walk_model.specs.Walks.{raised_bound, AreWalked};
 ghost use Rattle.certificate_walk.specs.Walking.{IsFedAll};
 
@@ -39,7 +39,7 @@ pub fn walk_window<T: TokenSink>(
         (T.stands_for tokens.old) (T.stands_for tokens.new) (T.refused tokens.new) result }
     ensures nodes { IfOk result (λ n. n ≡ node_count problem.now (raised_bound window bound)) }
     ensures fault { IsFault result → HasFault (T.faults tokens.old) (T.faults tokens.new) }
-    ensures counts { T.faults tokens.old ≤ T.faults tokens.new }
+    ensures counts { OnlyFaultRaises (T.faults tokens.old) (T.faults tokens.new) result }
     ensures over { T.over tokens.new ≡ T.over tokens.old }
 {
     walk_within(alloc, problem, window_of(window), bound, list, tokens)

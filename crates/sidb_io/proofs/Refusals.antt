@@ -1,7 +1,9 @@
 -- each definition refuses a wrong value
-use Rattle.std.proofs.Common.{◌≡◌, ℕ, ◌<◌, [], ◌∷◌, slice_index_or, refl, ap, arith, Some, None, inl, inr}
+use Rattle.std.proofs.Common.{◌≡◌, ℕ, ◌<◌, [], ◌∷◌, slice_index_or, refl, ap, arith, Some, None, Ok, Err, inl, inr}
 use Rattle.sidb_io.specs.Memory.{Refuses}
-use Rattle.sidb_io.specs.Outside.{HasFault, FailsWith, GaveAll, Fills, Took, TakesFrom}
+use Rattle.sidb_io.specs.Outside.{HasFault, FailsWith, GaveAll, Fills, IsCountAfter, Took, TakesFrom, WritesFront}
+use Rattle.sidb_io.specs.Whole.{IsCountAfterAll}
+use Rattle.sidb_io.specs.declared.read_whole.ReadAllFault.TheVariants.{TooLong}
 use Rattle.sidb_io.proofs.StandardFacts.{three, buffer, filled, store}
 
 no_uncounted_fault : HasFault 3 3 → ⊥
@@ -40,6 +42,21 @@ no_idle_write t = let some = t.some (omega arith) in omega arith
 -- a sink that tells its content goes on telling it
 no_silence : Took (Some []) [] None → ⊥
 no_silence t = cc
+
+no_fault_behind_an_answer : IsCountAfter {A = ℕ} {E = ℕ} 3 4 (Ok 1) → ⊥
+no_fault_behind_an_answer h = omega (arith, h)
+
+no_fault_behind_a_long_input : IsCountAfterAll {A = ℕ} 3 4 (Err TooLong) → ⊥
+no_fault_behind_a_long_input h = omega (arith, h)
+
+no_blanked_byte : WritesFront {E = ℕ} (Some []) (Some (0 ∷ [])) (Ok 1) three → ⊥
+no_blanked_byte w = cc
+
+no_byte_written_twice : WritesFront {E = ℕ} (Some []) (Some (1 ∷ 1 ∷ [])) (Ok 1) three → ⊥
+no_byte_written_twice w = cc
+
+no_byte_more_than_is_told : WritesFront {E = ℕ} (Some []) (Some filled) (Ok 1) three → ⊥
+no_byte_more_than_is_told w = cc
 
 no_refusal_with_room : Refuses store → ⊥
 no_refusal_with_room refused = elim refused [ inl listed ↦ not_listed listed.0 listed.1 listed.2 | inr full ↦ omega (arith, full) ] where

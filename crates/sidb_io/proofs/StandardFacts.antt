@@ -1,7 +1,9 @@
 -- calls worked by hand: three bytes that are given and taken by two
 use Rattle.std.proofs.Common.{◌≡◌, ℕ, List, [], ◌∷◌, refl, arith, Some, None, Ok, Err, inl, inr}
 use Rattle.sidb_io.specs.Memory.{Supply, Store, supply_after, store_after, Refuses}
-use Rattle.sidb_io.specs.Outside.{HasFault, FailsWith, GaveAll, Fills, Took, TookFront, TakesFrom, counted, faults_after, last_count}
+use Rattle.sidb_io.specs.Outside.{HasFault, FailsWith, GaveAll, Fills, IsCountAfter, Took, TookFront, TakesFrom, WritesFront, counted, faults_after, last_count}
+use Rattle.sidb_io.specs.Whole.{IsCountAfterAll}
+use Rattle.sidb_io.specs.declared.read_whole.ReadAllFault.TheVariants.{ReadFault, TooLong}
 
 abbrev pub three : List ℕ
 three = 1 ∷ 2 ∷ 3 ∷ []
@@ -70,3 +72,23 @@ listed_call = inl (0, omega arith, refl)
 
 real_count : faults_after {A = ℕ} {E = ℕ} 3 (Err 0) ≡ 4
 real_count = refl
+
+quiet_call : IsCountAfter {A = ℕ} {E = ℕ} 3 3 (Ok 1)
+quiet_call = refl
+
+failed_call : IsCountAfter {A = ℕ} {E = ℕ} 3 4 (Err 0)
+failed_call = omega arith
+
+too_long_is_quiet : IsCountAfterAll {A = ℕ} 3 3 (Err TooLong)
+too_long_is_quiet = refl
+
+failed_input : IsCountAfterAll {A = ℕ} 3 4 (Err ReadFault)
+failed_input = omega arith
+
+-- a writer that took two of three bytes
+writes_two : WritesFront {E = ℕ} (Some (7 ∷ [])) (Some (7 ∷ 1 ∷ 2 ∷ [])) (Ok 2) three
+writes_two = refl
+
+-- and whose flush failed then
+fails_after_two : WritesFront {E = ℕ} (Some (7 ∷ [])) (Some (7 ∷ 1 ∷ 2 ∷ [])) (Err 0) three
+fails_after_two = (2, refl)

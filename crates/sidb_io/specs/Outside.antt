@@ -1,6 +1,6 @@
 -- What calls of a source and of a sink do. What is left and what was written are known or not told.
 use Rattle.std.specs.Prelude.{◌≡◌, ◌⊎◌, ℕ, ◌+◌, ◌-◌, ◌^◌, ◌<◌, ◌≤◌, List, length, take, drop, min, Option, Result, Ok, Err}
-use Rattle.std.specs.Io.KnownBytes.{prepend_known, append_known, IsAtEnd}
+use Rattle.std.specs.Io.KnownBytes.{prepend_known, append_known, Appends, IsAtEnd}
 
 -- the last value of a count
 abbrev pub last_count : ℕ
@@ -18,6 +18,11 @@ HasFault old new = (old < new) ⊎ (new ≡ last_count)
 abbrev pub faults_after : {A E : Type 0} → ℕ → Result A E → ℕ
 faults_after faults (Ok a) = faults
 faults_after faults (Err e) = counted faults
+
+-- the count of faults after a call that answered this: only a failed call may raise it
+abbrev pub IsCountAfter : {A E : Type 0} → ℕ → ℕ → Result A E → Type 0
+IsCountAfter old new (Ok a) = new ≡ old
+IsCountAfter old new (Err e) = old ≤ new
 
 -- a call failed: it was counted, and the content is as before
 pub record FailsWith (old new : Option (List ℕ)) (old_faults new_faults : ℕ) : Type 0 where
@@ -53,3 +58,8 @@ pub record TakesFrom (old new : Option (List ℕ)) (piece : List ℕ) (k : ℕ) 
   pub within : k ≤ length piece
   pub took : Took old (take k piece) new
   pub some : 0 < length piece → 0 < k
+
+-- a writer took a front of a piece: that many bytes after an answer, some number after a failure
+abbrev pub WritesFront : {E : Type 0} → Option (List ℕ) → Option (List ℕ) → Result ℕ E → List ℕ → Type 0
+WritesFront old new (Ok n) piece = Appends old new (take n piece)
+WritesFront old new (Err e) piece = (n : ℕ) × Appends old new (take n piece)

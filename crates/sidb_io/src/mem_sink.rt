@@ -1,7 +1,7 @@
 // A sink in memory that fails on demand.
 ghost use Rattle.std.specs.Prelude.{◌≡◌, ◌<◌, ◌≤◌, ◌↔◌, ◌⊎◌, ◌-◌, [], Some, length, min, Contains, IsTrue, IfOk, OnErr, IsErr};
 ghost use Rattle.sidb_io.specs.Memory.{Refuses, store_after};
-ghost use Rattle.sidb_io.specs.Outside.{FailsWith, TakesFrom};
+ghost use Rattle.sidb_io.specs.Outside.{FailsWith, IsCountAfter, TakesFrom};
 
 use crate::{Failed, Sink};
 use std::marker::Model;
@@ -82,7 +82,7 @@ impl Sink for MemSink {
             (TakesFrom (Some self.old.written) (Some self.new.written) piece.now) }
         ensures err { OnErr result (FailsWith (Some self.old.written) (Some self.new.written)
             self.old.faults self.new.faults) }
-        ensures counts { self.old.faults ≤ self.new.faults }
+        ensures counts { IsCountAfter self.old.faults self.new.faults result }
         ensures refused { IsErr result ↔ Refuses self.old }
         ensures piece { IfOk result (λ k. k ≡ min (min self.old.piece (length piece.now))
             (self.old.capacity - length self.old.written)) }

@@ -1,7 +1,7 @@
 // A source in memory that fails on demand.
 ghost use Rattle.std.specs.Prelude.{◌≡◌, ◌<◌, ◌≤◌, ◌↔◌, Some, length, min, Contains, IfOk, OnErr, IsErr};
 ghost use Rattle.sidb_io.specs.Memory.{supply_after};
-ghost use Rattle.sidb_io.specs.Outside.{FailsWith, Fills};
+ghost use Rattle.sidb_io.specs.Outside.{FailsWith, Fills, IsCountAfter};
 
 use crate::fill::fill;
 use crate::{Failed, Source};
@@ -68,7 +68,7 @@ impl Source for MemSource {
         ensures ok { IfOk result (Fills (Some self.old.left) (Some self.new.left) buf.old buf.new) }
         ensures err { OnErr result
             (FailsWith (Some self.old.left) (Some self.new.left) self.old.faults self.new.faults) }
-        ensures counts { self.old.faults ≤ self.new.faults }
+        ensures counts { IsCountAfter self.old.faults self.new.faults result }
         ensures listed { IsErr result ↔ Contains self.old.fails self.old.calls }
         ensures piece { IfOk result (λ k. k ≡ min (min self.old.piece (length buf.old))
             (length self.old.left)) }

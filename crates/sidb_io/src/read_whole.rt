@@ -1,6 +1,7 @@
 // Whole inputs.
 ghost use Rattle.std.specs.Prelude.{◌<◌, ◌≤◌, ℕ, List, length, IfOk, IsErrOf};
 ghost use Rattle.sidb_io.specs.Outside.{HasFault, Gave, GaveAll};
+ghost use Rattle.sidb_io.specs.Whole.{IsCountAfterAll};
 
 use crate::Source;
 use std::alloc::Global;
@@ -34,7 +35,7 @@ pub fn read_all<S: Source>(
     ensures too_long { IsErrOf result ReadAllFault.TooLong → ((bytes : List ℕ)
         × (limit < length bytes) × Gave (S.left source.old) bytes (S.left source.new)) }
     ensures gone { (bytes : List ℕ) × Gave (S.left source.old) bytes (S.left source.new) }
-    ensures counts { S.faults source.old ≤ S.faults source.new }
+    ensures counts { IsCountAfterAll (S.faults source.old) (S.faults source.new) result }
 {
     let mut bytes = Vec::new(alloc);
     while bytes.len() <= limit {

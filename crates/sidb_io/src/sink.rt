@@ -1,6 +1,6 @@
 // What the program writes to.
-ghost use Rattle.std.specs.Prelude.{◌≤◌, ℕ, List, Option, IfOk, OnErr};
-ghost use Rattle.sidb_io.specs.Outside.{FailsWith, TakesFrom};
+ghost use Rattle.std.specs.Prelude.{ℕ, List, Option, IfOk, OnErr};
+ghost use Rattle.sidb_io.specs.Outside.{FailsWith, IsCountAfter, TakesFrom};
 
 use crate::Failed;
 
@@ -17,5 +17,5 @@ pub trait Sink {
         ensures ok { IfOk result (TakesFrom (written self.old) (written self.new) piece.now) }
         ensures err { OnErr result
             (FailsWith (written self.old) (written self.new) (faults self.old) (faults self.new)) }
-        ensures counts { faults self.old ≤ faults self.new };
+        ensures counts { IsCountAfter (faults self.old) (faults self.new) result };
 }

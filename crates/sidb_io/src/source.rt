@@ -1,6 +1,6 @@
 // What the program reads from.
-ghost use Rattle.std.specs.Prelude.{◌≤◌, ℕ, List, Option, IfOk, OnErr};
-ghost use Rattle.sidb_io.specs.Outside.{FailsWith, Fills};
+ghost use Rattle.std.specs.Prelude.{ℕ, List, Option, IfOk, OnErr};
+ghost use Rattle.sidb_io.specs.Outside.{FailsWith, Fills, IsCountAfter};
 
 use crate::Failed;
 
@@ -17,5 +17,5 @@ pub trait Source {
         ensures ok { IfOk result (Fills (left self.old) (left self.new) buf.old buf.new) }
         ensures err { OnErr result
             (FailsWith (left self.old) (left self.new) (faults self.old) (faults self.new)) }
-        ensures counts { faults self.old ≤ faults self.new };
+        ensures counts { IsCountAfter (faults self.old) (faults self.new) result };
 }

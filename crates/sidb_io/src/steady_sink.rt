@@ -1,6 +1,6 @@
 // A sink that never fails.
 ghost use Rattle.std.specs.Prelude.{◌≡◌, ◌≤◌, None, Ok, length, IfOk, OnErr};
-ghost use Rattle.sidb_io.specs.Outside.{FailsWith, TakesFrom};
+ghost use Rattle.sidb_io.specs.Outside.{FailsWith, IsCountAfter, TakesFrom};
 
 use crate::{Failed, Sink};
 
@@ -23,7 +23,7 @@ impl Sink for SteadySink {
     fn write(&mut self, piece: &[u8]) -> Result<usize, Failed>
         ensures ok { IfOk result (TakesFrom None None piece.now) }
         ensures err { OnErr result (FailsWith None None 0 0) }
-        ensures counts { 0 ≤ 0 }
+        ensures counts { IsCountAfter 0 0 result }
         ensures whole { result ≡ Ok (length piece.now) }
     {
         Ok(piece.len())

@@ -3,7 +3,7 @@ ghost use Rattle.charge_model.specs.GroundList.{IsMarkedGroundList};
 ghost use Rattle.charge_model.specs.Tree.{IsLeastCertain, node_count};
 ghost use Rattle.sidb_io.specs.Outside.{HasFault};
 ghost use Rattle.sidb_units.specs.declared.TheConstants.{MAX_ENTRIES, MAX_NODES};
-ghost use Rattle.token_sinks.specs.Taking.{IsFault};
+ghost use Rattle.token_sinks.specs.Taking.{IsFault, OnlyFaultRaises};
 ghost use Rattle.task_certificate.specs.WrittenSo.{IsWrittenSo};
 
 use certificate_writing::write_certificate;
@@ -58,6 +58,7 @@ impl<'a> CertificateDue<'a> {
     pub fn write<K: Sink>(&self, alloc: Global, sink: &mut K) -> Result<(), Stop>
         ensures written { IsWrittenSo self.now (K.written sink.old) (K.written sink.new) result }
         ensures fault { IsFault result → HasFault (K.faults sink.old) (K.faults sink.new) }
+        ensures counts { OnlyFaultRaises (K.faults sink.old) (K.faults sink.new) result }
     {
         ground_lists_have_written_tokens();
         let _known = self.problem.sites();

@@ -8,8 +8,11 @@ use prefix_bound::{Track, low};
 use sidb_units::Memory;
 use std::alloc::Global;
 
-/// How often the thresholds are told apart at most; mostly once suffices.
-const PASSES: usize = 6;
+/// How often the thresholds are told apart at most with the whole limit; mostly once suffices.
+const PASSES: usize = 12;
+
+/// How many passes are made before with lesser limits.
+const GROWING_PASSES: usize = 5;
 
 /// Counts the prefixes of the tree that begin with the prefix and one more charge.
 #[cycle(counts)]
@@ -101,27 +104,53 @@ fn narrower(
     Ok(Told { passing, gap })
 }
 
-/// A gap to begin with, and the threshold up to which a pass is made first.
+/// Where the next pass begins, and how far the last one got.
 #[derive(Clone, Copy)]
-struct First {
+struct Reach {
     gap: Gap,
-    end: i64,
+    step: i64,
 }
 
-/// Told by passes with smaller limits: the count of nodes grows mostly as fast from the one to the
-/// other as from there on.
-fn first_pass(alloc: Global, problem: &Problem, limit: u64, over: i64) -> Result<First, Memory> {
+impl Reach {
+    /// The threshold up to which the next pass is made: the count of nodes grows mostly as fast from
+    /// one pass to the next as from there on.
+    fn end(&self) -> i64 {
+        let Reach { gap, step } = self;
+        if *step <= 0 {
+            return gap.over;
+        }
+        gap.above
+            .saturating_add(step.saturating_mul(2))
+            .min(gap.over)
+    }
+
+    /// The same after a pass that left this gap.
+    fn after(&self, gap: Gap) -> Reach {
+        let step = gap.above.saturating_sub(self.gap.above);
+        Reach { gap, step }
+    }
+}
+
+/// Told by passes whose limits grow eightfold, so that each one knows from the one before how far it
+/// will get, and all of them together enter few nodes beside the last.
+fn first_reach(alloc: Global, problem: &Problem, limit: u64, over: i64) -> Result<Reach, Memory> {
     let above = low(problem, &Charges::empty()).saturating_sub(1);
-    let few = narrower(alloc, problem, limit / 4096, Gap { above, over }, over)?;
-    let above = few.gap.above;
-    let some_more = narrower(alloc, problem, limit / 64, Gap { above, over }, over)?;
-    let step = some_more.gap.above.saturating_sub(above).saturating_mul(2);
-    let above = some_more.gap.above;
-    let end = above.saturating_add(step).min(over);
-    Ok(First {
+    let step = over.saturating_sub(above);
+    let mut reach = Reach {
         gap: Gap { above, over },
-        end,
-    })
+        step,
+    };
+    let mut tried = limit / 32768;
+    for _pass in 0..GROWING_PASSES {
+        let told = narrower(alloc, problem, tried, reach.gap, reach.end())?;
+        let gap = Gap {
+            above: told.gap.above,
+            over,
+        };
+        reach = reach.after(gap);
+        tried = tried.saturating_mul(8);
+    }
+    Ok(reach)
 }
 
 /// A threshold, in 10^-12 V, below this one, under which the tree has a few more nodes than the
@@ -134,19 +163,17 @@ pub fn guessed_threshold(
     limit: u64,
     over: i64,
 ) -> Result<i64, Memory> {
-    let first = first_pass(alloc, problem, limit, over)?;
-    let mut gap = first.gap;
-    let mut end = first.end;
+    let mut reach = first_reach(alloc, problem, limit, over)?;
     for _pass in 0..PASSES {
+        let gap = reach.gap;
         if gap.over.saturating_sub(gap.above) <= 1 {
             return Ok(gap.above);
         }
-        let told = narrower(alloc, problem, limit, gap, end)?;
+        let told = narrower(alloc, problem, limit, gap, reach.end())?;
         if let Some(threshold) = told.passing {
             return Ok(threshold.min(over.saturating_sub(1)));
         }
-        gap = told.gap;
-        end = gap.over;
+        reach = reach.after(told.gap);
     }
-    Ok(gap.above)
+    Ok(reach.gap.above)
 }

@@ -1,6 +1,5 @@
 -- a line that is cut, a byte that is not the writer's, and a line that was not written
-use Rattle.std.proofs.Common.{◌≡◌, ◌++◌, List, [], ◌∷◌, length, Some, None, Ok, ap, arith}
-use Rattle.std.proofs.lemmas.List.{length-append}
+use Rattle.std.proofs.Common.{[], ◌∷◌, Some, None, Ok, arith}
 use Rattle.certificate_model.specs.declared.token.Token.TheVariants.{Node}
 use Rattle.token_lines.specs.TokenLines.{token_line}
 use Rattle.token_writer.specs.Writing.{AreLast, StandsIn, TookLines}

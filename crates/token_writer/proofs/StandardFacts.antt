@@ -1,10 +1,9 @@
 -- writers to a sink that held the byte 7, with the lines of two tokens, and with a front of a third, worked by hand
 use Rattle.std.proofs.Common.{◌≡◌, [], ◌∷◌, Some, None, Ok, refl}
 use Rattle.std.proofs.lemmas.List.Elements.{All-nil, All-cons}
-use Rattle.certificate_model.specs.declared.token.Token.{Token}
 use Rattle.certificate_model.specs.declared.token.Token.TheVariants.{Node, Site}
 use Rattle.token_lines.specs.TokenLines.{FitsToken, token_line}
-use Rattle.token_writer.specs.Writing.{AreLast, StandsIn, TookLines, over_of}
+use Rattle.token_writer.specs.Writing.{StandsIn, TookLines, over_of}
 
 two_nodes : StandsIn (Some (7 ∷ 110 ∷ 10 ∷ 110 ∷ 10 ∷ [])) 4 None (Node ∷ Node ∷ [])
 unfolding token_line

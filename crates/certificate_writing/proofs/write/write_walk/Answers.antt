@@ -1,5 +1,6 @@
-use Rattle.std.proofs.Common.{◌∙◌, sym, ap, subst, ◌≤◌}
+use Rattle.std.proofs.Common.{◌∙◌, sym, ap, subst}
 use Rattle.sidb_io.specs.Outside.{HasFault}
+use Rattle.token_sinks.specs.Taking.{OnlyFaultRaises}
 use Rattle.token_writer.specs.Writing.{WriterOver, TookLines}
 use Rattle.token_writer.proofs.Lines.{given_back}
 use Rattle.certificate_writing.proofs.write.write_walk.Goals as goal
@@ -26,6 +27,6 @@ returns-clause-fault g c = λ is.
 pub returns-clause-counts : goal.returns-clause-counts
 returns-clause-counts g c =
     let w = c.walk.new.tokens in
-    subst (λ x. g.K.Sink.faults c.args.sink.now ≤ g.K.Sink.faults x)
+    subst (λ x. OnlyFaultRaises (g.K.Sink.faults c.args.sink.now) (g.K.Sink.faults x) c.walk.result)
     (sym (given_back g.K.Sink.written _ w.sink.now (g.K.Sink.written c.args.sink.now) w.count w.sink.ghost_name _ (c.walk.ensures.over ∙ c.new-writer.ensures.over) (assumption)))
-    (subst (λ n. n ≤ g.K.Sink.faults w.sink.now) c.new-writer.ensures.faults c.walk.ensures.counts)
+    (subst (λ n. OnlyFaultRaises n (g.K.Sink.faults w.sink.now) c.walk.result) c.new-writer.ensures.faults c.walk.ensures.counts)

@@ -1,4 +1,4 @@
-use Rattle.std.proofs.Common.{◌≤◌, length, ◌+◌, ◌-◌}
+use Rattle.std.proofs.Common.{◌≡◌, ◌≤◌, length, ◌+◌, ◌-◌}
 use Rattle.sidb_io.specs.Outside.{Gave}
 use Rattle.sidb_io.proofs.read_whole.read_all.Given as goal
 
@@ -6,7 +6,7 @@ abbrev pub invariant-loop-block : goal.invariant-loop-block
 invariant-loop-block g l = record {
   given : Gave (g.S.Source.left l.fn.source) l.bytes.items (g.S.Source.left l.source);
   within : length l.bytes.items ≤ l.limit + 1;
-  counts : g.S.Source.faults l.fn.source ≤ g.S.Source.faults l.source;
+  same : g.S.Source.faults l.source ≡ g.S.Source.faults l.fn.source;
 }
 
 abbrev pub decreases-loop-block : goal.decreases-loop-block

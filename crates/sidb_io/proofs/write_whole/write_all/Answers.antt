@@ -7,5 +7,5 @@ pub loop-at-preserved : goal.loop-at-preserved
 loop-at-preserved g c = record {
   within = omega (arith, c.in_ok-at.ensures.ok.within, length-drop {A = ℕ});
   taken = took_more _ _ _ _ _ _ c.loop-at.invariant.taken (rw take_rest at c.in_ok-at.ensures.ok.took);
-  counts = omega (arith, c.loop-at.invariant.counts, c.in_ok-at.ensures.counts);
+  same = omega (arith, c.loop-at.invariant.same, c.in_ok-at.ensures.counts);
 }
