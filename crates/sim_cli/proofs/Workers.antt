@@ -6,7 +6,7 @@ use Rattle.sidb_layout.specs.Layout.{Arrangement}
 use Rattle.command_words.specs.declared.settings.Settings.{Settings}
 use Rattle.command_words.specs.declared.settings.SearchSettings.{SearchSettings}
 use Rattle.command_words.specs.declared.settings.Task.{Task}
-use Rattle.command_words.specs.declared.settings.Task.TheVariants.{Ground, Potentials, Certify, Check, Window, Occupation, Range, Gen, Truth, Domain}
+use Rattle.command_words.specs.declared.settings.Task.TheVariants.{Ground, Potentials, Certify, Check, Window, Occupation, Range, Gen, Truth, Domain, Region}
 use Rattle.command_words.specs.Settings.{IsSettingsOf}
 use Rattle.ground_report.specs.declared.about.About.{About}
 use Rattle.ground_state.specs.Answer.{IsListedWithin, IsOverBudget, IsSolution, IsTooLongWithin}
@@ -24,6 +24,7 @@ use Rattle.task_ground.specs.GroundAnswer.{IsGroundAnswer, IsUnlisted}
 use Rattle.task_levels.specs.OccupationAnswer.{IsOccupationAnswer}
 use Rattle.task_levels.specs.RangeAnswer.{IsAnswerWithin, IsRangeAnswer, levels_between}
 use Rattle.task_levels.specs.WindowAnswer.{IsWindowListAnswer, IsWindowUnlisted}
+use Rattle.task_region.specs.RegionAnswer.{IsRegionAnswer, IsRegionOfGate, IsRegionOutcome}
 use Rattle.sim_cli.specs.declared.kind.InputKind.{InputKind}
 use Rattle.sim_cli.specs.declared.kind.InputKind.TheVariants.{ProblemText, CertificateText, NoText}
 use Rattle.sim_cli.specs.Kind.{kind_of}
@@ -32,17 +33,18 @@ use Rattle.sim_cli.specs.Workers.{AreAlikeButWorkers}
 
 -- the settings with other limits of their search
 abbrev with_search : Settings → SearchSettings → Settings
-with_search a search = record { task = a.task; form = a.form; params = a.params; search = search; report = a.report; levels = a.levels; gate = a.gate; generated = a.generated }
+with_search a search = record { task = a.task; form = a.form; params = a.params; search = search; report = a.report; levels = a.levels; gate = a.gate; generated = a.generated; region = a.region }
 
 same_rest : (a b : Settings) → AreAlikeButWorkers a b → with_search a b.search ≡ b
 same_rest a b alike =
-    ap (λ task. record { task = task; form = a.form; params = a.params; search = b.search; report = a.report; levels = a.levels; gate = a.gate; generated = a.generated }) alike.task
-    ∙ ap (λ form. record { task = b.task; form = form; params = a.params; search = b.search; report = a.report; levels = a.levels; gate = a.gate; generated = a.generated }) alike.form
-    ∙ ap (λ params. record { task = b.task; form = b.form; params = params; search = b.search; report = a.report; levels = a.levels; gate = a.gate; generated = a.generated }) alike.params
-    ∙ ap (λ report. record { task = b.task; form = b.form; params = b.params; search = b.search; report = report; levels = a.levels; gate = a.gate; generated = a.generated }) alike.report
-    ∙ ap (λ levels. record { task = b.task; form = b.form; params = b.params; search = b.search; report = b.report; levels = levels; gate = a.gate; generated = a.generated }) alike.levels
-    ∙ ap (λ gate. record { task = b.task; form = b.form; params = b.params; search = b.search; report = b.report; levels = b.levels; gate = gate; generated = a.generated }) alike.gate
-    ∙ ap (λ generated. record { task = b.task; form = b.form; params = b.params; search = b.search; report = b.report; levels = b.levels; gate = b.gate; generated = generated }) alike.generated
+    ap (λ task. record { task = task; form = a.form; params = a.params; search = b.search; report = a.report; levels = a.levels; gate = a.gate; generated = a.generated; region = a.region }) alike.task
+    ∙ ap (λ form. record { task = b.task; form = form; params = a.params; search = b.search; report = a.report; levels = a.levels; gate = a.gate; generated = a.generated; region = a.region }) alike.form
+    ∙ ap (λ params. record { task = b.task; form = b.form; params = params; search = b.search; report = a.report; levels = a.levels; gate = a.gate; generated = a.generated; region = a.region }) alike.params
+    ∙ ap (λ report. record { task = b.task; form = b.form; params = b.params; search = b.search; report = report; levels = a.levels; gate = a.gate; generated = a.generated; region = a.region }) alike.report
+    ∙ ap (λ levels. record { task = b.task; form = b.form; params = b.params; search = b.search; report = b.report; levels = levels; gate = a.gate; generated = a.generated; region = a.region }) alike.levels
+    ∙ ap (λ gate. record { task = b.task; form = b.form; params = b.params; search = b.search; report = b.report; levels = b.levels; gate = gate; generated = a.generated; region = a.region }) alike.gate
+    ∙ ap (λ generated. record { task = b.task; form = b.form; params = b.params; search = b.search; report = b.report; levels = b.levels; gate = b.gate; generated = generated; region = a.region }) alike.generated
+    ∙ ap (λ region. record { task = b.task; form = b.form; params = b.params; search = b.search; report = b.report; levels = b.levels; gate = b.gate; generated = b.generated; region = region }) alike.region
 
 unlisted : (a : Settings) (s : SearchSettings) → a.search.limit ≡ s.limit → (p : Problem) (status : Status) (text : List ℕ) → IsUnlisted a p status text → IsUnlisted (with_search a s) p status text
 unlisted a s same p status text =
@@ -99,6 +101,16 @@ domain a s same layout status text is = record { gate = is.gate; given = is.give
     by (inl on) = inl (on.0, subst (λ limit. IsDomainOutcome (with_search a s) (placed_of layout is.gate limit) is.axes status text) same (moved on.1))
     by (inr off) = inr off
 
+region : (a : Settings) (s : SearchSettings) → a.search.limit ≡ s.limit → (layout : Arrangement) (status : Status) (text : List ℕ) → IsRegionAnswer a layout status text → IsRegionAnswer (with_search a s) layout status text
+region a s same layout status text is = record { gate = is.gate; given = is.given; axes = is.axes; points = is.points; answers = by is.answers }
+  where
+    moved : IsRegionOutcome a (placed_by a is.gate layout) is.axes status text → IsRegionOutcome (with_search a s) (placed_by a is.gate layout) is.axes status text
+    moved on = (on.0, record { tiles = on.1.tiles; of_grid = on.1.of_grid; prints = on.1.prints })
+
+    by : IsRegionOfGate a is.gate is.axes layout status text → IsRegionOfGate (with_search a s) is.gate is.axes layout status text
+    by (inl on) = inl (on.0, subst (λ limit. IsRegionOutcome (with_search a s) (placed_of layout is.gate limit) is.axes status text) same (moved on.1))
+    by (inr off) = inr off
+
 generated : (a : Settings) (s : SearchSettings) (p : Problem) → IsGenProblem a p → IsGenProblem (with_search a s) p
 generated a s p is = record { layout = is.layout; made = is.made; of_layout = is.of_layout; holds = is.holds }
 
@@ -137,6 +149,7 @@ for_task Occupation a s same about p status text is = occupation a s same p stat
 for_task Range a s same about p status text is = range a s same p status text is
 for_task Truth a s same about p status text is = record { layout = is.layout; told = is.told; holds = truth a s same is.layout status text is.holds }
 for_task Domain a s same about p status text is = record { layout = is.layout; told = is.told; holds = domain a s same is.layout status text is.holds }
+for_task Region a s same about p status text is = record { layout = is.layout; told = is.told; holds = region a s same is.layout status text is.holds }
 for_task Check a s same about p status text is = is
 for_task Gen a s same about p status text is = is
 

@@ -12,3 +12,4 @@ pub record AreAlikeButWorkers (a b : Settings) : Type 0 where
   pub levels : a.levels ≡ b.levels
   pub gate : a.gate ≡ b.gate
   pub generated : a.generated ≡ b.generated
+  pub region : a.region ≡ b.region

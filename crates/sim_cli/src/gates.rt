@@ -1,8 +1,9 @@
 // Asks the tasks that read a layout.
 ghost use Rattle.std.specs.Prelude.{◌≡◌, ◌≢◌, None, Some, IfOk};
-ghost use Rattle.command_words.specs.Settings.{HasDomainNeeds, HasTruthNeeds};
+ghost use Rattle.command_words.specs.Settings.{HasDomainNeeds, HasRegionNeeds, HasTruthNeeds};
 ghost use Rattle.run_answer.specs.Due.{DueIs};
 ghost use Rattle.task_gate.specs.Answers.{IsDomainAnswer, IsTruthAnswer};
+ghost use Rattle.task_region.specs.RegionAnswer.{IsRegionAnswer};
 ghost use Rattle.sim_cli.specs.Answer.{OfLayout};
 
 use command_words::Settings;
@@ -14,6 +15,7 @@ use std::alloc::Global;
 use std::thread::Threads;
 use task_gate::{domain_answer, truth_answer};
 use task_input::About;
+use task_region::region_answer;
 
 /// The layout that is told of.
 #[tactic(auto, using(crate::proofs::Layouts::whole))]
@@ -58,4 +60,20 @@ pub fn domain_due<R: Threads + Sync>(
 {
     let layout = layout_in(alloc, about)?;
     domain_answer(rt, alloc, settings, layout)
+}
+
+/// The tiles of a gate on the layout that is told of.
+pub fn region_due<R: Threads + Sync>(
+    rt: &R,
+    alloc: Global,
+    settings: &Settings,
+    about: &About,
+) -> Result<Due, Memory>
+    requires needs { HasRegionNeeds settings.now }
+    requires drawn { about.now.layout ≢ None }
+    ensures { IfOk result (DueIs (λ status text. OfLayout about.now
+        (λ layout. IsRegionAnswer settings.now layout status text))) }
+{
+    let layout = layout_in(alloc, about)?;
+    region_answer(rt, alloc, settings, layout)
 }
