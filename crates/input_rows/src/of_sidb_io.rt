@@ -2,8 +2,50 @@ use sidb_io::{
     Event, Failed, Gate, MemSink, MemSource, NoGate, ReadAllFault, RealSink, RealSource, Sink,
     Source, SteadySink, SteadySource, read_all, write_all,
 };
+use std::io::{ErrorKind, Read, Write};
 use std::test::Fail;
 use std::{fs, io};
+
+/// A writer that takes one byte a call.
+#[derive(Drop)]
+struct ByteWriter {
+    bytes: Vec<u8>,
+}
+
+impl Write for ByteWriter {
+    fn write(&mut self, piece: &[u8]) -> io::Result<usize> {
+        if piece.is_empty() {
+            return Ok(0);
+        }
+        match self.bytes.push(piece[0]) {
+            Ok(()) => Ok(1),
+            Err(_) => Err(io::Error::from(ErrorKind::OutOfMemory)),
+        }
+    }
+
+    fn flush(&mut self) -> io::Result<()> {
+        Ok(())
+    }
+}
+
+/// A writer that takes each piece, and whose flush fails.
+#[derive(Drop)]
+struct UnflushedWriter {
+    bytes: Vec<u8>,
+}
+
+impl Write for UnflushedWriter {
+    fn write(&mut self, piece: &[u8]) -> io::Result<usize> {
+        match self.bytes.extend_from_slice(piece) {
+            Ok(()) => Ok(piece.len()),
+            Err(_) => Err(io::Error::from(ErrorKind::OutOfMemory)),
+        }
+    }
+
+    fn flush(&mut self) -> io::Result<()> {
+        Err(io::Error::from(ErrorKind::Other))
+    }
+}
 
 // Six bytes by two are three reads that give and one that finds the end.
 #[test]
@@ -80,5 +122,39 @@ fn writes_the_real(rt: HostRuntime) -> Result<(), Fail> {
     assert_eq!(rt; block.as_slice(), b"abc\0".as_slice());
     let mut closed = RealSink::new(fs::open(&rt, "/dev/null")?);
     assert_eq!(rt; closed.write(b"abc".as_slice()), Err(Failed));
+    Ok(())
+}
+
+// A short read is none that fails, and none is made up.
+#[test]
+fn reads_in_pieces(rt: HostRuntime) -> Result<(), Fail> {
+    let pieces = b"abc".as_slice().chain(b"de".as_slice());
+    let mut source = RealSource::new(pieces);
+    assert_eq!(rt; source.read(&mut [0; 2]), Ok(2));
+    let all = read_all(rt.alloc(), &mut source, 3);
+    assert!(rt; all.is_ok_and(|all| all.as_slice() == b"cde".as_slice()));
+    Ok(())
+}
+
+// A short write is none that fails: the rest is written by the next.
+#[test]
+fn writes_byte_by_byte(rt: HostRuntime) -> Result<(), Fail> {
+    let mut writer = ByteWriter {
+        bytes: Vec::new(rt.alloc()),
+    };
+    assert!(rt; write_all(&mut RealSink::new(&mut writer), b"abc".as_slice()).is_ok());
+    assert_eq!(rt; writer.bytes.as_slice(), b"abc".as_slice());
+    assert_eq!(rt; RealSink::new(&mut writer).write(b"de".as_slice()), Ok(1));
+    Ok(())
+}
+
+// What is taken and not flushed is a failed write, and isn't written again.
+#[test]
+fn finds_a_failed_flush(rt: HostRuntime) -> Result<(), Fail> {
+    let mut writer = UnflushedWriter {
+        bytes: Vec::new(rt.alloc()),
+    };
+    assert!(rt; write_all(&mut RealSink::new(&mut writer), b"abc".as_slice()).is_err());
+    assert_eq!(rt; writer.bytes.as_slice(), b"abc".as_slice());
     Ok(())
 }

@@ -5,7 +5,7 @@ ghost use Rattle.sidb_io.specs.Outside.{HasFault};
 ghost use Rattle.sim_cli.specs.Answer.{input_limit};
 ghost use Rattle.sim_cli.specs.Kind.{kind_of, ReadsInput};
 ghost use Rattle.sim_cli.specs.Reading.{IsAnswerable, IsReadFor, IsReadingOf, IsToTheEnd};
-ghost use Rattle.sim_cli.specs.Run.{ForBytesLeft, IsUnread};
+ghost use Rattle.sim_cli.specs.Run.{ForBytesLeft, IsUnread, TellsFaults};
 
 use crate::kind::{InputKind, kind_of};
 use command_words::{Settings, Task};
@@ -41,8 +41,9 @@ pub fn read_for<S: Source>(alloc: Global, settings: &Settings, source: &mut S) -
     ensures short { ReadsInput settings.now.task → ForBytesLeft (S.left source.old)
         (λ bytes. length bytes ≤ input_limit settings.now.task)
         → IsAnswerable result → IsAtEnd (S.left source.new) }
-    ensures fault { result ≡ Reading.ReadFault
-        → HasFault (S.faults source.old) (S.faults source.new) }
+    ensures fault { TellsFaults Reading.ReadFault result
+        (HasFault (S.faults source.old) (S.faults source.new))
+        (S.faults source.old) (S.faults source.new) }
     ensures unread { kind_of settings.now.task ≡ InputKind.NoText → IsUnread
         (S.left source.old) (S.left source.new) (S.faults source.old) (S.faults source.new) }
 {
@@ -61,8 +62,9 @@ fn read_whole<S: Source>(alloc: Global, settings: &Settings, source: &mut S) -> 
     ensures short { ForBytesLeft (S.left source.old)
         (λ bytes. length bytes ≤ input_limit settings.now.task)
         → IsAnswerable result → IsAtEnd (S.left source.new) }
-    ensures fault { result ≡ Reading.ReadFault
-        → HasFault (S.faults source.old) (S.faults source.new) }
+    ensures fault { TellsFaults Reading.ReadFault result
+        (HasFault (S.faults source.old) (S.faults source.new))
+        (S.faults source.old) (S.faults source.new) }
 {
     match read_all(alloc, source, input_limit(settings.task)) {
         Ok(bytes) => reading_of(alloc, settings, bytes),
