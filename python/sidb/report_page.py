@@ -4,6 +4,7 @@ from __future__ import annotations
 
 import shlex
 from collections.abc import Iterable, Iterator
+from dataclasses import replace
 from decimal import ROUND_CEILING, ROUND_FLOOR, Decimal
 from typing import Any
 
@@ -192,7 +193,10 @@ def _domain(report: Report) -> Iterator[Markup]:
 
 
 def _map_of(domain: DomainAnswer | RegionAnswer) -> tuple[Any, list[str], str]:
-    """The map of a domain or of regions, its verdicts, and what they say."""
+    """The map of a domain or of regions, its verdicts, and what they say. A sign in a name that cannot be printed would
+    break the picture."""
+    layout = domain.gate.layout
+    domain = replace(domain, gate=replace(domain.gate, layout=layout.renamed(shown(layout.name))))
     if isinstance(domain, RegionAnswer):
         return pictures.plot_regions(domain), [tile.verdict for tile in domain.tiles], "A tile holds at each of its points."
     said = "Each cell is a point of the grid; nothing is said of what lies between two."

@@ -227,6 +227,10 @@ class Defect:
         return {"n": n, "m": m, "l": atom, "distance_nm": distance, **self.outcome.row()}
 
 
+def _squared_distance(trial: Defect) -> int:
+    return trial.squared_distance
+
+
 @dataclass(frozen=True)
 class Defects(Study):
     """The verdicts on a gate with one more fixed charge, at each of some places."""
@@ -246,8 +250,8 @@ class Defects(Study):
     @property
     def last_bad(self) -> Defect | None:
         """The place farthest from the dots at which the gate is not proved to work."""
-        bad = (trial for trial in self.trials if trial.outcome.verdict != "works")
-        return max(bad, key=lambda trial: trial.squared_distance, default=None)
+        bad = [trial for trial in self.trials if trial.outcome.verdict != "works"]
+        return max(bad, key=_squared_distance) if bad else None
 
     @property
     def clearance(self) -> int | None:

@@ -2,6 +2,7 @@
 
 from __future__ import annotations
 
+import base64
 import hashlib
 import os
 import subprocess
@@ -9,6 +10,7 @@ from dataclasses import dataclass, field
 from decimal import Decimal
 from html.parser import HTMLParser
 from pathlib import Path
+from xml.etree import ElementTree
 
 import pytest
 import sidb
@@ -183,6 +185,9 @@ def test_hostile_names_show_as_text(tmp_path: Path) -> None:
     headings = [text for text in page.text.split("<h1>")[1:]]
     assert len(headings) == 1 and "<script" not in page.text
     assert markup.shown(HOSTILE) == shown
+    sources = [attributes["src"] for tag, attributes in page.elements if tag == "img"]
+    for source in sources:
+        ElementTree.fromstring(base64.b64decode(source.partition(",")[2]))
     assert Page("<h1 id='h'>" + headings[0].split("</h1>")[0] + "</h1>").named["h"] == shown
 
 
