@@ -45,7 +45,7 @@ value_or d (Some x) = x
 pub same_value : {X : Type 0} (o : Option X) (a b : X) → o ≡ Some a → o ≡ Some b → a ≡ b
 same_value o a b e f = ap (value_or a) (sym e ∙ f)
 
-one_gate : (g : GateSettings) (a b : Logic) → IsGivenGate g a → IsGivenGate g b → a ≡ b
+pub one_gate : (g : GateSettings) (a b : Logic) → IsGivenGate g a → IsGivenGate g b → a ≡ b
 one_gate g a b x y = x.gate_is ∙ ap (logic_of g.inputs g.outputs) (same_value g.function x.function y.function x.given y.given) ∙ sym y.gate_is
 
 module _ (one : PartsAreOne) (s : Settings) (layout : Arrangement) (valid : IsLayout layout) where
@@ -62,7 +62,7 @@ module _ (one : PartsAreOne) (s : Settings) (layout : Arrangement) (valid : IsLa
       same_domain one s y.gate layout valid y.axes a b t u (subst (λ x. IsDomainOfGate s y.gate x layout a t) grids moved) y.answers
 
 -- the gate of settings that give one
-given_by : (g : GateSettings) (has : HasGate g) → IsGivenGate g (logic_of g.inputs g.outputs has.computed)
+pub given_by : (g : GateSettings) (has : HasGate g) → IsGivenGate g (logic_of g.inputs g.outputs has.computed)
 given_by g has = record { function = has.computed; given = has.given; gate_is = refl }
 
 -- a grid that a text means keeps what each grid keeps
@@ -76,11 +76,15 @@ axis_of q part axis is =
       inside = is.inside;
     }
 
+pub axes_of : (told : Option Text) (axes : Axes) → IsRead IsGridText told (Some axes) → AreAxes axes
+axes_of None axes read = absurd read
+axes_of (Some text) axes read = record { eps = axis_of permittivity read.eps_part axes.eps read.eps; lam = axis_of screening_length read.lam_part axes.lam read.lam }
+
 some_axes : (told : Option Text) (grid : Option Axes) → IsRead IsGridText told grid → grid ≢ None → (axes : Axes) × (grid ≡ Some axes) × AreAxes axes
 some_axes None None read there = absurd (there refl)
 some_axes None (Some a) read there = absurd read
 some_axes (Some text) None read there = absurd read
-some_axes (Some text) (Some a) read there = (a, refl, record { eps = axis_of permittivity read.eps_part a.eps read.eps; lam = axis_of screening_length read.lam_part a.lam read.lam })
+some_axes (Some text) (Some a) read there = (a, refl, axes_of (Some text) a read)
 
 module _ (parts : PartsAreThere) (s : Settings) (layout : Arrangement) (valid : IsLayout layout) where
   pub some_truth_answer : HasTruthNeeds s → (status : Status) × (text : List ℕ) × IsTruthAnswer s layout status text

@@ -64,7 +64,7 @@ on_or_outside gate sites place on outside = by (in_one_of (length sites) (places
     by (inl first) = none_outside sites gate.inputs place on.inputs first
     by (inr first) = none_outside sites gate.outputs place on.outputs first
 
-same_site : (gate : Logic) (layout : Arrangement) (a b : Status) (t u : List ℕ) → IsSiteAnswer gate layout a t → IsSiteAnswer gate layout b u → (a ≡ b) × (t ≡ u)
+pub same_site : (gate : Logic) (layout : Arrangement) (a b : Status) (t u : List ℕ) → IsSiteAnswer gate layout a t → IsSiteAnswer gate layout b u → (a ≡ b) × (t ≡ u)
 same_site gate layout a b t u x y =
     let place = same_place (length layout.sites) (places_in gate.inputs ++ places_in gate.outputs) x.place y.place x.site y.site in (
       x.answers.status_is ∙ ap (λ p. Input (GateSite p)) place ∙ sym y.answers.status_is,

@@ -63,6 +63,14 @@ site_named place = record { layout = λ is. absurd (cc is); certificate = λ is.
 site_answer : (gate : Logic) (layout : Arrangement) (place : ℕ) → IsGateSite gate layout.sites place → IsSiteAnswer gate layout (Input (GateSite place)) (input_line (GateSite place))
 site_answer gate layout place site = record { place = place; site = site; answers = record { named = site_named place; status_is = refl; prints = refl } }
 
+-- all places are sites, or some line names one that is none
+pub on_or_answer : (gate : Logic) (layout : Arrangement) → IsOn gate layout.sites ⊎ ((status : Status) × (text : List ℕ) × IsSiteAnswer gate layout status text)
+on_or_answer gate layout = by (on_or_site gate layout.sites)
+  where
+    by : IsOn gate layout.sites ⊎ ((place : ℕ) × IsGateSite gate layout.sites place) → IsOn gate layout.sites ⊎ ((status : Status) × (text : List ℕ) × IsSiteAnswer gate layout status text)
+    by (inl on) = inl on
+    by (inr (place, site)) = inr (Input (GateSite place), input_line (GateSite place), site_answer gate layout place site)
+
 -- some status and text are the answer
 abbrev pub HasTruth : Settings → Logic → Arrangement → Type 0
 HasTruth s gate layout = (status : Status) × (text : List ℕ) × IsTruthOfGate s gate layout status text

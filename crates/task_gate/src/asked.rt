@@ -17,7 +17,7 @@ use std::alloc::Global;
 use std::thread::Threads;
 
 /// The gate that the settings give.
-fn given_gate(alloc: Global, given: &GateSettings) -> Result<LogicSpec, Memory>
+pub fn given_gate(alloc: Global, given: &GateSettings) -> Result<LogicSpec, Memory>
     requires { HasGate given.now }
     ensures { IfOk result (IsGivenGate given.now) }
 {

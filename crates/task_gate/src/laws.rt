@@ -1,21 +1,49 @@
 //! What holds of the answers of these tasks: there is one for the settings and a layout, and what it
 //! tells.
-ghost use Rattle.std.specs.Prelude.{◌≡◌, ℕ, List, Option};
+ghost use Rattle.std.specs.Prelude.{◌≡◌, ◌⊎◌, ℕ, List, Option, Some};
 ghost use Rattle.clap.specs.Walk.{Text};
 ghost use Rattle.sidb_layout.specs.Layout.{Arrangement, IsLayout};
 ghost use Rattle.gate_model.specs.GridTexts.{IsGridText};
+ghost use Rattle.gate_model.specs.Grids.{AreAxes, Axes};
+ghost use Rattle.gate_model.specs.Logic.{IsLogic, Logic};
+ghost use Rattle.bdl_pairs.specs.Remaining.{IsOn};
+ghost use Rattle.command_words.specs.declared.gate_settings.GateSettings.{GateSettings as GateData};
 ghost use Rattle.command_words.specs.declared.settings.Settings.{Settings as SettingsData};
+ghost use Rattle.command_words.specs.Gates.{HasGate};
 ghost use Rattle.command_words.specs.Options.{IsRead};
 ghost use Rattle.command_words.specs.Settings.{HasDomainNeeds, HasTruthNeeds};
 ghost use Rattle.run_answer.specs.declared.status.Status.{Status as StatusData};
 ghost use Rattle.run_answer.specs.declared.status.Status.TheVariants.{Answered};
-ghost use Rattle.task_gate.specs.Answers.{IsDomainAnswer, IsTruthAnswer, TellsDomain, TellsTruth};
+ghost use Rattle.task_gate.specs.Answers.{IsDomainAnswer, IsGivenGate, IsTruthAnswer, TellsDomain, TellsTruth};
+ghost use Rattle.task_gate.specs.GateSite.{IsSiteAnswer};
 
 use gate_report::laws::working_tables_work_at_each_pattern;
 use operational_domain::laws::{
     each_gate_has_a_table, failing_gates_miss_a_bit, failing_patterns_miss_a_bit, one_cell,
     one_table, some_cell, working_gates_read_their_bits, working_patterns_read_their_bits,
 };
+
+/// Settings give one gate at most, and give one where they have what a gate needs.
+pub fn one_given_gate()
+    ensures one { (g : GateData) (a b : Logic) → IsGivenGate g a → IsGivenGate g b → a ≡ b }
+    ensures some { (g : GateData) → HasGate g → (gate : Logic) × IsGivenGate g gate × IsLogic gate }
+{}
+
+/// The grid that a text means keeps what each grid keeps.
+pub fn given_grids_are_grids()
+    ensures { (points : Option Text) (axes : Axes) → IsRead IsGridText points (Some axes)
+        → AreAxes axes }
+{}
+
+/// All places of a gate are sites, or one line names the first that is none.
+pub fn one_site_answer()
+    ensures one { (gate : Logic) (layout : Arrangement) (a b : StatusData) (t u : List ℕ)
+        → IsSiteAnswer gate layout a t → IsSiteAnswer gate layout b u → (a ≡ b) × (t ≡ u) }
+    ensures not_on { (gate : Logic) (layout : Arrangement) (status : StatusData) (text : List ℕ)
+        → IsOn gate layout.sites → IsSiteAnswer gate layout status text → ⊥ }
+    ensures some { (gate : Logic) (layout : Arrangement) → IsOn gate layout.sites
+        ⊎ ((status : StatusData) × (text : List ℕ) × IsSiteAnswer gate layout status text) }
+{}
 
 /// For the settings and a layout one status and one text at most are the truth answer.
 pub fn one_truth_answer()

@@ -7,5 +7,5 @@ pub mod laws;
 mod sites;
 mod truth;
 
-pub use asked::{domain_answer, truth_answer};
+pub use asked::{domain_answer, given_gate, truth_answer};
 pub use sites::gate_site;
