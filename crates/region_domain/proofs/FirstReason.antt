@@ -8,7 +8,7 @@ use Rattle.gate_model.specs.Logic.{pattern_count}
 use Rattle.operational_domain.specs.Placed.{Placed}
 use Rattle.parameter_regions.specs.declared.rectangles.Rectangle.{Rectangle}
 use Rattle.region_domain.specs.Patterns.{HasTileVerdict}
-use Rattle.region_domain.specs.Tiles.{IsFirstTileReason, IsTileAnswer, IsTileReason, WorkOnTile}
+use Rattle.region_domain.specs.Tiles.{IsTileAnswer, IsTileReason, WorkOnTile}
 
 -- by the reason
 pub reason_answers : (placed : Placed) (r : Rectangle) (answer : CellAnswer) (k : ℕ) → k < pattern_count placed.gate → IsTileReason placed r answer k → WorkOnTile placed r k → IsTileAnswer placed r answer

@@ -8,14 +8,13 @@ use Rattle.sidb_layout.specs.Layout.{Arrangement, IsLayout}
 use Rattle.ground_state.specs.Answer.{IsListedWithin, IsOverBudget, IsTooLongWithin, IsWithinBudget}
 use Rattle.gate_model.specs.declared.pairs.PairOf.{PairOf}
 use Rattle.gate_model.specs.Logic.{Logic, pattern_count}
-use Rattle.bdl_pairs.specs.declared.truth.PatternAnswer.{PatternAnswer}
 use Rattle.bdl_pairs.specs.declared.verdicts.PatternVerdict.{PatternVerdict}
 use Rattle.bdl_pairs.specs.declared.verdicts.PatternVerdict.TheVariants.{Works as PatternWorks, Fails as PatternFails, Undecided as PatternUndecided}
 use Rattle.bdl_pairs.specs.declared.cell.CellAnswer.{CellAnswer}
 use Rattle.bdl_pairs.specs.declared.cell.CellAnswer.TheVariants.{Works, Fails, Undecided, Budget, Long}
 use Rattle.bdl_pairs.specs.Remaining.{IsLeft, Remaining}
 use Rattle.bdl_pairs.specs.Verdict.{IsVerdict}
-use Rattle.operational_domain.specs.declared.patterns.PatternSolved.TheVariants.{Answer, Budget as SolvedBudget, ListTooLong as SolvedTooLong}
+use Rattle.operational_domain.specs.declared.patterns.PatternSolved.TheVariants.{Budget as SolvedBudget, ListTooLong as SolvedTooLong}
 use Rattle.operational_domain.specs.Placed.{Placed}
 use Rattle.parameter_regions.specs.declared.rectangles.Rectangle.{Rectangle}
 use Rattle.parameter_regions.specs.Regions.{IsRegionProblemOf}

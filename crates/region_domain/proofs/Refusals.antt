@@ -1,7 +1,7 @@
 -- what is no answer of a gate on a rectangle
-use Rattle.std.proofs.Common.{◌≡◌, ◌∙◌, sym, ℕ, arith}
+use Rattle.std.proofs.Common.{◌≡◌, ℕ, arith}
 use Rattle.gate_model.specs.Logic.{pattern_count}
-use Rattle.bdl_pairs.specs.declared.cell.CellAnswer.TheVariants.{Works, Fails, Undecided, Budget, Long}
+use Rattle.bdl_pairs.specs.declared.cell.CellAnswer.TheVariants.{Works, Fails}
 use Rattle.operational_domain.specs.Placed.{Placed}
 use Rattle.parameter_regions.specs.declared.rectangles.Rectangle.{Rectangle}
 use Rattle.region_domain.specs.Tiles.{IsTileAnswer, IsTileReason}

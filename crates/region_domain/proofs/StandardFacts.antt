@@ -1,5 +1,5 @@
 -- answers of gates on a rectangle, worked by hand
-use Rattle.std.proofs.Common.{◌≡◌, ℕ, refl, arith}
+use Rattle.std.proofs.Common.{◌≡◌, refl, arith}
 use Rattle.gate_model.specs.Logic.{pattern_count}
 use Rattle.bdl_pairs.specs.declared.verdicts.PatternVerdict.TheVariants.{Fails as PatternFails, Undecided as PatternUndecided}
 use Rattle.bdl_pairs.specs.declared.cell.CellAnswer.TheVariants.{Works, Fails, Undecided, Budget, Long}

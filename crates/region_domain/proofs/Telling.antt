@@ -19,7 +19,7 @@ use Rattle.parameter_regions.specs.declared.rectangles.Rectangle.{Rectangle}
 use Rattle.parameter_regions.specs.Regions.{AtEveryPoint, IsRegionProblemOf}
 use Rattle.region_domain.specs.Patterns.{HasTileVerdict}
 use Rattle.region_domain.specs.Tiles.{IsTileAnswer}
-use Rattle.region_domain.specs.Promises.{MissesEverywhere, MissesTheBit, ReadsEverywhere, ReadsTheBit, TellsEverywhere}
+use Rattle.region_domain.specs.Promises.{MissesEverywhere, ReadsEverywhere, TellsEverywhere}
 
 -- the laws below
 pub record LawsTell : Type 0 where

@@ -1,7 +1,6 @@
-use Rattle.std.proofs.Common.{◌≡◌, ◌∙◌, sym, ap, subst}
+use Rattle.std.proofs.Common.{◌≡◌, ◌∙◌, ap, subst}
 use Rattle.std.proofs.lemmas.Result.{IfOk-weaker}
 use Rattle.std.specs.List.{AllZip, flat_map}
-use Rattle.region_tiles.specs.Rectangles.{AreGridRectangles}
 use Rattle.region_domain.specs.Region.{AreRegionTiles, AreTilesOf}
 use Rattle.region_domain.proofs.grid.region.Goals as goal
 
