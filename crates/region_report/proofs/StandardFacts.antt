@@ -57,6 +57,6 @@ abbrev quoted : List ℕ → List ℕ
 quoted word = 34 ∷ (word ++ 34 ∷ [])
 
 no_tiles_in_json : region_json []
-    ≡ (codes "{" ++ (quoted (codes "fails") ++ (codes ":0," ++ (quoted (codes "kind") ++ (codes ":" ++ (quoted (codes "sidb-region") ++ (codes "," ++ (quoted (codes "open") ++ (codes ":0," ++ (quoted (codes "tiles") ++ (codes ":[]," ++ (quoted (codes "version") ++ (codes ":1," ++ (quoted (codes "works") ++ codes ":0}"))))))))))))))) ++ 10 ∷ []
+    ≡ (codes "{" ++ (quoted (codes "fails") ++ (codes ":0," ++ (quoted (codes "kind") ++ (codes ":" ++ (quoted (codes "sidb-region") ++ (codes "," ++ (quoted (codes "open") ++ (codes ":0," ++ (quoted (codes "tiles") ++ (codes ":[]," ++ (quoted (codes "version") ++ (codes ":1," ++ (quoted (codes "works") ++ codes ":0}")))))))))))))) ++ 10 ∷ []
 unfolding serde_json_on_literals digits
 no_tiles_in_json = refl

@@ -7,6 +7,7 @@ use Rattle.bdl_pairs.specs.declared.cell.CellAnswer.{CellAnswer}
 use Rattle.bdl_pairs.specs.declared.cell.CellAnswer.TheVariants.{Works, Fails, Undecided}
 use Rattle.parameter_regions.specs.declared.rectangles.Rectangle.{Rectangle}
 use Rattle.region_tiles.specs.Alike.{AreAlike}
+use Rattle.region_tiles.specs.declared.tiles.Tile.{Tile}
 use Rattle.region_tiles.specs.Sides.{IsSideWithin, between}
 use Rattle.region_tiles.specs.Rectangles.{HasSides, sides_of}
 use Rattle.region_tiles.specs.Tiles.{AreTiles, IsPart, area_of}
@@ -61,5 +62,9 @@ the_same_twice are = let area : 12 ≡ 6 = are.area in omega (arith, area)
 abbrev says_works : Rectangle → CellAnswer → Type 0
 says_works r a = a ≡ Works
 
+abbrev first_answer : List Tile → CellAnswer
+first_answer [] = Works
+first_answer (t ∷ ts) = t.answer
+
 another_answer : (r : Rectangle) → IsRefined says_works 0 r (tile_of r (Fails 0) ∷ []) → ⊥
-another_answer r is = absurd (cc (is.said, is.tile))
+another_answer r is = let answers : Fails 0 ≡ is.answer = ap first_answer is.tile in absurd (cc (answers, is.said))
