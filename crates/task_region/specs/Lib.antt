@@ -1,0 +1,2 @@
+pub mod RegionAnswer
+pub mod Told
