@@ -6,7 +6,7 @@ use Rattle.sidb_units.specs.Decimal.{last_digits}
 use Rattle.serde_json.proofs.OnLiterals.{serde_json_on_literals}
 use Rattle.model_params.specs.declared.params.Params.{Params}
 use Rattle.bdl_pairs.specs.declared.cell.CellAnswer.{CellAnswer}
-use Rattle.bdl_pairs.specs.declared.cell.CellAnswer.TheVariants.{Works, Fails, Long}
+use Rattle.bdl_pairs.specs.declared.cell.CellAnswer.TheVariants.{Works, Long}
 use Rattle.parameter_regions.specs.declared.rectangles.Rectangle.{Rectangle}
 use Rattle.region_tiles.specs.declared.tiles.Tile.{Tile}
 use Rattle.region_report.specs.RegionText.{region_text}

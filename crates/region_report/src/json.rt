@@ -1,12 +1,11 @@
 ghost use Rattle.std.specs.Prelude.{◌≡◌, ◌<◌, ◌^◌, map, string_bytes, IfOk};
 ghost use Rattle.serde_json.specs.View.{view};
 ghost use Rattle.region_tiles.specs.Areas.{whole_area};
-ghost use Rattle.screened_coulomb.specs.Potential.{eps_of, lam_of};
-ghost use Rattle.region_report.specs.RegionJson.{pair_data, region_data, region_json, tile_data};
+ghost use Rattle.region_report.specs.RegionJson.{region_data, region_json, tile_data};
 
 use crate::numbers::{eps_word, lam_word, tile_in};
 use gate_report::answer_text;
-use region_tiles::{Rectangle, Tile, areas_of};
+use region_tiles::{Tile, areas_of};
 use serde_json::{Value, json};
 use sidb_units::Memory;
 use std::alloc::Global;
@@ -31,7 +30,7 @@ fn region_value(alloc: Global, tiles: &[Tile]) -> Result<Value, Memory>
     let (works, fails, stays_open) = (areas.works, areas.fails, areas.stays_open);
     let tiles = Value::Array(tile_values(alloc, tiles)?);
     Ok(json!(in alloc; {
-        "fails": fails, "kind": "sidb-region", "open": stays_open, "tiles": tiles, "version": 1u64,
+        "tiles": tiles, "fails": fails, "kind": "sidb-region", "open": stays_open, "version": 1u64,
         "works": works
     })?)
 }
@@ -51,31 +50,14 @@ fn tile_values(alloc: Global, tiles: &[Tile]) -> Result<Vec<Value>, Memory>
 fn tile_value(alloc: Global, tile: &Tile) -> Result<Value, Memory>
     ensures { IfOk result (λ value. view value ≡ tile_data tile.now) }
 {
-    let eps = eps_value(alloc, &tile.rectangle)?;
-    let lam = lam_value(alloc, &tile.rectangle)?;
+    let eps_from = eps_word(alloc, &tile.rectangle.strongest)?;
+    let eps_to = eps_word(alloc, &tile.rectangle.weakest)?;
+    let lam_from = lam_word(alloc, &tile.rectangle.weakest)?;
+    let lam_to = lam_word(alloc, &tile.rectangle.strongest)?;
     let answer = answer_text(alloc, tile.answer)?;
-    let answer = answer.as_str();
-    Ok(json!(in alloc; { "answer": answer, "eps": eps, "lambda": lam })?)
-}
-
-/// The permittivities of a rectangle.
-fn eps_value(alloc: Global, r: &Rectangle) -> Result<Value, Memory>
-    ensures { IfOk result (λ value. view value
-        ≡ pair_data (eps_of r.now.strongest) (eps_of r.now.weakest)) }
-{
-    let from = eps_word(alloc, &r.strongest)?;
-    let to = eps_word(alloc, &r.weakest)?;
-    let (from, to) = (from.as_str(), to.as_str());
-    Ok(json!(in alloc; [from, to])?)
-}
-
-/// The screening lengths of a rectangle.
-fn lam_value(alloc: Global, r: &Rectangle) -> Result<Value, Memory>
-    ensures { IfOk result (λ value. view value
-        ≡ pair_data (lam_of r.now.weakest) (lam_of r.now.strongest)) }
-{
-    let from = lam_word(alloc, &r.weakest)?;
-    let to = lam_word(alloc, &r.strongest)?;
-    let (from, to) = (from.as_str(), to.as_str());
-    Ok(json!(in alloc; [from, to])?)
+    let (eps_from, eps_to) = (eps_from.as_str(), eps_to.as_str());
+    let (lam_from, lam_to, answer) = (lam_from.as_str(), lam_to.as_str(), answer.as_str());
+    Ok(json!(in alloc; {
+        "answer": answer, "eps": [eps_from, eps_to], "lambda": [lam_from, lam_to]
+    })?)
 }

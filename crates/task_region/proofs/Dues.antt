@@ -1,5 +1,5 @@
 -- what is due to a gate on a layout
-use Rattle.std.proofs.Common.{◌≡◌, inl, inr, ℕ, Option, Some, Result, Ok, Err, IfOk}
+use Rattle.std.proofs.Common.{◌≡◌, inl, inr, ℕ, Some, Result, Ok, Err, IfOk}
 use Rattle.sidb_units.specs.declared.memory.Memory.{Memory}
 use Rattle.sidb_layout.specs.Layout.{Arrangement}
 use Rattle.command_words.specs.declared.settings.Settings.{Settings}

@@ -1,5 +1,5 @@
 -- what is no answer
-use Rattle.std.proofs.Common.{◌≡◌, ◌≢◌, ℕ, inl, inr, List, Option, None, Some}
+use Rattle.std.proofs.Common.{◌≡◌, ℕ, inl, inr, List, None}
 use Rattle.sidb_layout.specs.Layout.{Arrangement}
 use Rattle.command_words.specs.declared.settings.Settings.{Settings}
 use Rattle.gate_model.specs.Grids.{Axes}

@@ -1,5 +1,5 @@
 -- settings that give a gate, and a layout, have a region answer
-use Rattle.std.proofs.Common.{◌≡◌, refl, subst, ℕ, ◌⊎◌, inl, inr, List, Option, Some}
+use Rattle.std.proofs.Common.{refl, subst, ℕ, ◌⊎◌, inl, inr, List, Option, Some}
 use Rattle.clap.specs.Walk.{Text}
 use Rattle.sidb_layout.specs.Layout.{Arrangement, IsLayout}
 use Rattle.model_params.specs.declared.params.Params.{Params}

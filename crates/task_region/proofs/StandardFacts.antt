@@ -3,7 +3,6 @@ use Rattle.std.proofs.Common.{◌≡◌, ℕ, pos, refl, inl, inr, List, [], ◌
 use Rattle.std.proofs.lemmas.Int.{ints}
 use Rattle.std.specs.Fmt.{digits}
 use Rattle.sidb_units.specs.Decimal.{last_digits}
-use Rattle.sidb_layout.specs.declared.site.Site.{Site}
 use Rattle.sidb_layout.specs.Layout.{Arrangement}
 use Rattle.model_params.specs.declared.params.Params.{Params}
 use Rattle.command_words.specs.declared.settings.Settings.{Settings}
@@ -12,7 +11,7 @@ use Rattle.gate_model.specs.declared.function.Function.{Function}
 use Rattle.gate_model.specs.Grids.{Axes}
 use Rattle.gate_model.specs.Logic.{Logic, logic_of}
 use Rattle.bdl_pairs.specs.declared.cell.CellAnswer.{CellAnswer}
-use Rattle.bdl_pairs.specs.declared.cell.CellAnswer.TheVariants.{Works, Fails, Budget}
+use Rattle.bdl_pairs.specs.declared.cell.CellAnswer.TheVariants.{Works, Budget}
 use Rattle.bdl_pairs.specs.Remaining.{IsOn}
 use Rattle.fault_lines.specs.declared.input_fault.InputFault.TheVariants.{GateSite}
 use Rattle.screened_coulomb.proofs.StandardFacts.{usual}

@@ -1,4 +1,4 @@
-use Rattle.std.proofs.Common.{refl, subst}
+use Rattle.std.proofs.Common.{ap, subst, Err}
 use Rattle.sim_cli.specs.Reading.{IsAnswerable}
 use Rattle.sim_cli.proofs.Answering.{long_input}
 use Rattle.sim_cli.proofs.Faults.{long_is_quiet, want_of_memory_is_quiet}
@@ -12,8 +12,7 @@ returns-in-Ok-clause-fault g c = record {
 
 pub returns-in-Err-TooLong-clause-means : goal.returns-in-Err-TooLong-clause-means
 returns-in-Err-TooLong-clause-means g c =
-    let same = c.in-Err-TooLong.field-0-is in
-    let long = c.in-Err-TooLong.ensures.too_long (cc) in
+    let long = c.in-Err-TooLong.ensures.too_long (ap Err c.in-Err-TooLong.field-0-is) in
     long_input c.args.settings.now _ _ _ long.0 c.requires c.input_limit.ensures.value long.2 long.1
 
 pub returns-in-Err-TooLong-clause-fault : goal.returns-in-Err-TooLong-clause-fault
