@@ -26,12 +26,12 @@ def test_python_of_the_readme_runs(tmp_path: Path, monkeypatch: pytest.MonkeyPat
 
 
 def test_names_of_the_readme_are_there() -> None:
-    from sidb import pictures, symmetry
+    from sidb import pictures, studies, symmetry
 
     named = re.findall(r"`([A-Za-z_]+)[`(]", (TOP / "python" / "README.md").read_text())
-    known = {*dir(sidb), *dir(pictures), *dir(symmetry), *dir(sidb.Layout), *dir(sidb.Run), *dir(sidb.SidbError("")), *dir(sidb.Interval)}
+    known = {*dir(sidb), *dir(pictures), *dir(symmetry), *dir(studies), *dir(studies.Study), *dir(sidb.Sweep), *dir(sidb.Layout), *dir(sidb.Run), *dir(sidb.SidbError("")), *dir(sidb.Interval)}
     words = {"SIDB", "PATH", "muzm", "eps_r", "debye_length", "leave_out", "left_out", "distributed", "program", "parameters",
-             "limit", "workers", "timeout", "run", "rows", "draw", "map", "sweep", "str", "sites"}  # fmt: skip
+             "limit", "workers", "timeout", "run", "rows", "draw", "map", "sweep", "str", "sites", "samples"}  # fmt: skip
     assert [name for name in named if name not in known | words] == []
 
 
@@ -51,10 +51,13 @@ def test_example_from_a_file_of_siqad(tmp_path: Path) -> None:
 
 
 def test_pictures_of_the_documents_are_those_of_the_example() -> None:
-    pictures = sorted(path.name for path in (TOP / "docs" / "pictures").iterdir())
-    script = (EXAMPLES / "from_siqad.py").read_text()
-    assert pictures and all(name in script for name in pictures)
-    assert all((TOP / "docs" / "pictures" / name).stat().st_size < 60_000 for name in pictures)
+    kept = sorted((TOP / "docs" / "pictures" / "python").iterdir())
+    scripts = "".join((EXAMPLES / name).read_text() for name in ("from_siqad.py", "gate_page.py"))
+    own = [path for path in kept if path.name in scripts]
+    assert {path.stem for path in own} == {"gate", "patterns", "ground", "domain", "levels", "shares"}
+    studies = [path.stem.removeprefix("or_gate_") for path in kept if path not in own]
+    assert all(f'"{study}"' in scripts for study in studies)
+    assert all(path.stat().st_size < 60_000 for path in kept)
 
 
 def test_or_gate_as_a_file_of_siqad_is_the_example() -> None:
