@@ -26,12 +26,12 @@ write_faults result before after told = record {
 }
 
 -- an input that is too long, and want of memory, count no fault
-pub long_is_quiet : {A : Type 0} → (before after : ℕ) (fault : ReadAllFault) → fault ≡ TooLong → IsCountAfterAll {A = A} before after (Err fault) → after ≡ before
-long_is_quiet before after FailedRead same count = absurd (cc)
-long_is_quiet before after TooLong same count = count
-long_is_quiet before after NoMemory same count = count
+pub long_is_quiet : (A : Type 0) → (before after : ℕ) (fault : ReadAllFault) → fault ≡ TooLong → IsCountAfterAll {A = A} before after (Err fault) → after ≡ before
+long_is_quiet A before after FailedRead same count = absurd (cc)
+long_is_quiet A before after TooLong same count = count
+long_is_quiet A before after NoMemory same count = count
 
-pub want_of_memory_is_quiet : {A : Type 0} → (before after : ℕ) (fault : ReadAllFault) → fault ≡ NoMemory → IsCountAfterAll {A = A} before after (Err fault) → after ≡ before
-want_of_memory_is_quiet before after FailedRead same count = absurd (cc)
-want_of_memory_is_quiet before after TooLong same count = count
-want_of_memory_is_quiet before after NoMemory same count = count
+pub want_of_memory_is_quiet : (A : Type 0) → (before after : ℕ) (fault : ReadAllFault) → fault ≡ NoMemory → IsCountAfterAll {A = A} before after (Err fault) → after ≡ before
+want_of_memory_is_quiet A before after FailedRead same count = absurd (cc)
+want_of_memory_is_quiet A before after TooLong same count = count
+want_of_memory_is_quiet A before after NoMemory same count = count
