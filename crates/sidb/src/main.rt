@@ -1,5 +1,6 @@
 //! Ground states of silicon dangling-bond layouts, under every potential inside stated spans.
 #![tactic(auto)]
+
 ghost use Rattle.std.specs.Prelude.{◌≡◌, ◌≢◌};
 ghost use Rattle.std.specs.IoError.{error_kind};
 

@@ -9,9 +9,10 @@ returns-in-Ok-clause-answer g c =
     λ bytes means. ran_due c.in-Ok.due _ _ _ _ _ c.deliver.ensures.delivered (IsTaskAnswer c.args.settings.now bytes) _ (c.in-Ok.ensures.answer bytes means) c.in-Ok.ensures.streams
 
 pub returns-in-Ok-clause-read_fault : goal.returns-in-Ok-clause-read_fault
-returns-in-Ok-clause-read_fault g c =
-    (λ e. absurd (not_failed _ _ _ (ended c.in-Ok.due _ _ _ _ _ c.deliver.ensures.delivered c.in-Ok.ensures.ends) e),
-    λ is. absurd (subst IsAnswerable is c.in-Ok.ensures.read))
+returns-in-Ok-clause-read_fault g c = (
+  λ e. absurd (not_failed _ _ _ (ended c.in-Ok.due _ _ _ _ _ c.deliver.ensures.delivered c.in-Ok.ensures.ends) e),
+  λ is. absurd (subst IsAnswerable is c.in-Ok.ensures.read),
+)
 
 pub returns-in-Ok-clause-write_fault : goal.returns-in-Ok-clause-write_fault
 returns-in-Ok-clause-write_fault g c = record {
