@@ -1,4 +1,4 @@
-use Rattle.std.proofs.Common.{ap, subst, Err}
+use Rattle.std.proofs.Common.{ap, subst, ℕ, Err, Global, Vec}
 use Rattle.sim_cli.specs.Reading.{IsAnswerable}
 use Rattle.sim_cli.proofs.Answering.{long_input}
 use Rattle.sim_cli.proofs.Faults.{long_is_quiet, want_of_memory_is_quiet}
@@ -18,11 +18,11 @@ returns-in-Err-TooLong-clause-means g c =
 pub returns-in-Err-TooLong-clause-fault : goal.returns-in-Err-TooLong-clause-fault
 returns-in-Err-TooLong-clause-fault g c = record {
   failed = λ is. absurd (cc);
-  quiet = λ other. long_is_quiet _ _ _ _ c.in-Err-TooLong.field-0-is c.in-Err-TooLong.ensures.counts;
+  quiet = λ other. long_is_quiet (Vec ℕ Global) _ _ c.in-Err-TooLong.field-0 c.in-Err-TooLong.field-0-is c.in-Err-TooLong.ensures.counts;
 }
 
 pub returns-in-Err-Memory-clause-fault : goal.returns-in-Err-Memory-clause-fault
 returns-in-Err-Memory-clause-fault g c = record {
   failed = λ is. absurd (cc);
-  quiet = λ other. want_of_memory_is_quiet _ _ _ _ c.in-Err-Memory.field-0-is c.in-Err-Memory.ensures.counts;
+  quiet = λ other. want_of_memory_is_quiet (Vec ℕ Global) _ _ c.in-Err-Memory.field-0 c.in-Err-Memory.field-0-is c.in-Err-Memory.ensures.counts;
 }
