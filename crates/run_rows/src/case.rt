@@ -45,21 +45,11 @@ pub fn outcome<R: Threads + Sync, G: Gate>(
     case: &Case<'_>,
     gate: &G,
 ) -> Result<(u8, Vec<u8>), Fail> {
-    outcome_within(rt, alloc, case, Vec::with_capacity(alloc, 8192)?, gate)
-}
-
-/// The same, where no more is written than the room has capacity for.
-pub fn outcome_within<R: Threads + Sync, G: Gate>(
-    rt: &R,
-    alloc: Global,
-    case: &Case<'_>,
-    room: Vec<u8>,
-    gate: &G,
-) -> Result<(u8, Vec<u8>), Fail> {
     let words = word_list(alloc, case.words)?;
     let piece = case.piece.max(1);
     let bytes = case.input.as_bytes().to_vec(alloc)?;
     let mut source = MemSource::new(bytes, piece, numbers(alloc, case.failed_read)?);
+    let room = Vec::with_capacity(alloc, 8192)?;
     let mut sink = MemSink::new(room, piece, numbers(alloc, case.failed_write)?);
     let status = run(rt, alloc, &words, &mut source, &mut sink, gate);
     Ok((code(&status), sink.written().to_vec(alloc)?))
