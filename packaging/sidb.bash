@@ -1,6 +1,8 @@
 # Completes the words of sidb in bash.
 _sidb() {
     local word=${COMP_WORDS[COMP_CWORD]} before=${COMP_WORDS[COMP_CWORD - 1]}
+    # bash cuts --task=truth into three words
+    if [ "$word" = = ]; then word=; elif [ "$before" = = ]; then before=${COMP_WORDS[COMP_CWORD - 2]}; fi
     case $before in
         --task) COMPREPLY=($(compgen -W "ground truth domain region window occupation range potentials certify check gen" -- "$word")) ;;
         --form) COMPREPLY=($(compgen -W "sites sqd table" -- "$word")) ;;
