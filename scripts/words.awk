@@ -61,14 +61,46 @@ function is_below(a, b,    left, right, width) {
     return (left[2] "x") < (right[2] "x")
 }
 
+# Inputs and outputs are pairs of sites, and a function has a name for so many inputs.
+function take_gate(    inputs, names) {
+    inputs = count_pairs("--input", 2)
+    count_pairs("--output", 4)
+    if (!("--function" in seen)) return
+    if (!inputs) tell("--function needs --input")
+    names = inputs == 1 ? "zero buf not one" : "zero and gt a lt b xor or nor xnor notb ge nota le nand one"
+    if (index(" " names " ", " " given["--function"] " ") == 0)
+        tell("--function is for " (inputs == 1 ? "one input" : "two inputs") " one of " names ", not " given["--function"])
+}
+
+# How many pairs the value of an option has; each place stands once in all of them.
+function count_pairs(name, most,    pairs, n, k, pair) {
+    if (!(name in seen)) return 0
+    n = split(given[name], pairs, ",")
+    for (k = 1; k <= n; k++) {
+        if (pairs[k] !~ /^[0-9]+:[0-9]+$/) tell(name " " given[name] " is no list of pairs: as 0:2, or 0:2,1:3")
+        split(pairs[k], pair, ":")
+        take_place(pair[1])
+        take_place(pair[2])
+    }
+    if (n > most) tell(name " has more than " most " pairs")
+    return n
+}
+
+function take_place(place) {
+    if (place + 0 > 9999) tell("the dot " place " is out of range: 0 to 9999")
+    if (place + 0 in used) tell("the dot " place " stands twice in the pairs of --input and --output")
+    used[place + 0] = 1
+}
+
 function take_needs(    task) {
     task = given["--task"]
     if (task == "range" && !("--range" in seen)) tell("the task range needs --range A:B, as --range 0.2:0.4")
-    if (task == "domain" && !("--grid" in seen)) tell("the task domain needs --grid, as --grid 5.6:0.4:2,5:1:2")
-    if (task == "truth" || task == "domain") {
+    if ((task == "domain" || task == "region") && !("--grid" in seen))
+        tell("the task " task " needs --grid, as --grid 5.6:0.4:2,5:1:2")
+    if (task == "truth" || task == "domain" || task == "region") {
         if (!("--input" in seen) || !("--output" in seen) || !("--function" in seen))
             tell("the task " task " needs --input, --output and --function, as --input 0:2,1:3 --output 20:21 --function or")
         if (given["--form"] == "table") tell("the task " task " needs a layout: a table has no places")
     }
-    if ("--function" in seen && !("--input" in seen)) tell("--function needs --input")
+    take_gate()
 }
