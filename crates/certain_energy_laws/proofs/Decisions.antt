@@ -38,7 +38,7 @@ both_decided P Q (inr never) b = inr (λ h. never h.0)
 both_decided P Q (inl a) (inr never) = inr (λ h. never h.1)
 
 -- a quantity is at least 0 under every table where its least value is
-kept_decided : (p : Problem) (f : Table → ℤ) (least : ℤ) → IsLeast p f least → Decided (UnderEveryTable p (λ t. pos 0 ≤ℤ f t))
+pub kept_decided : (p : Problem) (f : Table → ℤ) (least : ℤ) → IsLeast p f least → Decided (UnderEveryTable p (λ t. pos 0 ≤ℤ f t))
 kept_decided p f least is = by (int_le (pos 0) least) refl
   where
     by : (r : Bool) → int_le (pos 0) least ≡ r → Decided (UnderEveryTable p (λ t. pos 0 ≤ℤ f t))
@@ -51,7 +51,7 @@ below_zero greatest s positive less =
     let scaled = mul-le greatest (negsuc 0) s (omega (arith, ints, less)) in omega (arith, ints, scaled, positive)
 
 -- it is so under some table where its greatest value is
-reached_decided : (p : Problem) (f : Table → ℤ) (greatest : ℤ) → IsGreatest p f greatest → Decided (UnderSomeTable p (λ t. pos 0 ≤ℤ f t))
+pub reached_decided : (p : Problem) (f : Table → ℤ) (greatest : ℤ) → IsGreatest p f greatest → Decided (UnderSomeTable p (λ t. pos 0 ≤ℤ f t))
 reached_decided p f greatest is = by (int_le (pos 0) greatest) refl
   where
     by : (r : Bool) → int_le (pos 0) greatest ≡ r → Decided (UnderSomeTable p (λ t. pos 0 ≤ℤ f t))

@@ -7,7 +7,8 @@ use Rattle.std.specs.Ordering.{nat_cmp, MatchOrdering}
 use Rattle.std.specs.Cmp.{ranked}
 use Rattle.charge_model.specs.declared.charge.Charge.{Charge}
 use Rattle.charge_model.specs.Charges.{charge_at, rank_of, IsBefore}
-use Rattle.charge_state.proofs.Numerals.{IsBefore-irrefl, IsBefore-asym, before_at, same_charges}
+use Rattle.charge_state.proofs.Numerals.{IsBefore-asym, before_at, same_charges}
+use Rattle.charge_model.proofs.Order.{IsBefore-irrefl}
 
 -- the answer tells exactly how the lists stand
 pub record Tells (a b : List Charge) (r : Ordering) : Type 0 where

@@ -1,12 +1,13 @@
 -- the order of charge lists, and the next one
 use Rattle.std.proofs.Common.{◌≡◌, ◌≢◌, ℕ, zero, suc, ◌+◌, ◌-◌, ◌*◌, ◌^◌, ◌<◌, ◌≤◌, List, [], ◌∷◌, ◌++◌, length, replicate, Some, None, cond, eqb, ◌⊎◌, inl, inr, refl, sym, ap, subst, ◌∙◌, arith}
 use Rattle.std.proofs.Math.Nat.{mul-le-mul_right, pow-suc}
-use Rattle.std.proofs.lemmas.Bool.{cases_eq, cases_order, eq-eqb, ne_eqb}
+use Rattle.std.proofs.lemmas.Bool.{cases_eq, eq-eqb, ne_eqb}
 use Rattle.std.proofs.lemmas.List.{length-append, length-replicate, append_assoc}
 use Rattle.charge_model.specs.declared.charge.Charge.{Charge}
 use Rattle.charge_model.specs.declared.charge.Charge.TheVariants.{Neg, Neutral, Pos}
 use Rattle.charge_model.specs.Charges.{charge_at, rank_of, IsBefore, IsOfBase, IsNext, IsLast}
 use Rattle.charge_state.specs.Order.{successor_of}
+use Rattle.charge_model.proofs.Order.{same_rank, IsBefore-trans, IsBefore-irrefl}
 
 -- each charge of the list is the last of the base
 abbrev pub AllLast : ℕ → List Charge → Type 0
@@ -41,17 +42,6 @@ successor-allowed : (b : ℕ) (x d : Charge) → successor_of b x ≡ Some d →
 successor-allowed b Neg d e two = λ f. let g : Some Neutral ≡ Some Pos = e ∙ ap (λ z. Some z) f in absurd (cc)
 successor-allowed b Neutral d e two = λ f. let g : cond (eqb b 2) None (Some Pos) ≡ None = rw (eq-eqb b 2 two) refl in absurd (cc)
 successor-allowed b Pos d e two = absurd (cc)
-
-same_rank : (x y : Charge) → rank_of x ≡ rank_of y → x ≡ y
-same_rank Neg Neg e = refl
-same_rank Neg Neutral e = absurd (omega arith)
-same_rank Neg Pos e = absurd (omega arith)
-same_rank Neutral Neg e = absurd (omega arith)
-same_rank Neutral Neutral e = refl
-same_rank Neutral Pos e = absurd (omega arith)
-same_rank Pos Neg e = absurd (omega arith)
-same_rank Pos Neutral e = absurd (omega arith)
-same_rank Pos Pos e = refl
 
 -- a list of last charges has none after it
 pub none_after_last : (b : ℕ) (cs : List Charge) → AllLast b cs → IsLast b cs
@@ -133,35 +123,6 @@ next_made b cs next pre rest pushed filled x d n split popped last s push whole 
     let made : filled ≡ pre ++ d ∷ replicate (length rest) Neg =
     fill ∙ ap (λ z. pushed ++ replicate z Neg) count ∙ ap (λ z. z ++ replicate (length rest) Neg) push ∙ append_assoc pre (d ∷ []) (replicate (length rest) Neg) in
     rw (list, made) (next_is b pre x d rest s last (subst (IsOfBase b) list of))
-
--- the order is total on lists of one length
-pub order_cases : (c e : List Charge) → length e ≡ length c → (e ≡ c) ⊎ (IsBefore e c ⊎ IsBefore c e)
-order_cases [] [] same = inl refl
-order_cases [] (y ∷ ys) same = absurd (omega (arith, same))
-order_cases (x ∷ xs) [] same = absurd (omega (arith, same))
-order_cases (x ∷ xs) (y ∷ ys) same = by (cases_order (rank_of y) (rank_of x)) (order_cases xs ys (omega (arith, same)))
-  where
-    by : (rank_of y ≡ rank_of x) ⊎ ((rank_of y < rank_of x) ⊎ (rank_of x < rank_of y)) → (ys ≡ xs) ⊎ (IsBefore ys xs ⊎ IsBefore xs ys)
-        → (y ∷ ys ≡ x ∷ xs) ⊎ (((rank_of y < rank_of x) ⊎ ((y ≡ x) × IsBefore ys xs)) ⊎ ((rank_of x < rank_of y) ⊎ ((x ≡ y) × IsBefore xs ys)))
-    by (inl e) (inl f) = let g = same_rank y x e in inl (cc (f, g))
-    by (inl e) (inr (inl h)) = inr (inl (inr (same_rank y x e, h)))
-    by (inl e) (inr (inr h)) = inr (inr (inr (sym (same_rank y x e), h)))
-    by (inr (inl l)) h = inr (inl (inl l))
-    by (inr (inr l)) h = inr (inr (inl l))
-
-pub IsBefore-trans : (a b c : List Charge) → IsBefore a b → IsBefore b c → IsBefore a c
-IsBefore-trans [] b c p q = absurd p
-IsBefore-trans (x ∷ xs) [] c p q = absurd p
-IsBefore-trans (x ∷ xs) (y ∷ ys) [] p q = absurd q
-IsBefore-trans (x ∷ xs) (y ∷ ys) (z ∷ zs) (inl p) (inl q) = inl (omega (arith, p, q))
-IsBefore-trans (x ∷ xs) (y ∷ ys) (z ∷ zs) (inl p) (inr q) = inl (subst (λ w. rank_of x < rank_of w) q.0 p)
-IsBefore-trans (x ∷ xs) (y ∷ ys) (z ∷ zs) (inr p) (inl q) = inl (subst (λ w. rank_of w < rank_of z) (sym p.0) q)
-IsBefore-trans (x ∷ xs) (y ∷ ys) (z ∷ zs) (inr p) (inr q) = inr (p.0 ∙ q.0, IsBefore-trans xs ys zs p.1 q.1)
-
-pub IsBefore-irrefl : (a : List Charge) → IsBefore a a → ⊥
-IsBefore-irrefl [] p = p
-IsBefore-irrefl (x ∷ xs) (inl p) = omega (arith, p)
-IsBefore-irrefl (x ∷ xs) (inr p) = IsBefore-irrefl xs p.1
 
 rank-le : (c : Charge) → rank_of c ≤ 2
 rank-le Neg = omega arith

@@ -8,7 +8,8 @@ use Rattle.charge_model.specs.declared.charge.Charge.{Charge}
 use Rattle.charge_model.specs.declared.charge.Charge.TheVariants.{Neg}
 use Rattle.charge_model.specs.Charges.{IsBefore, IsOfBase, IsNext, IsLast}
 use Rattle.charge_state.specs.Order.{successor_of, GoesOn, IsRun, IsListOf, HoldsEach}
-use Rattle.charge_state.proofs.Numerals.{AllLast, none_after_last, first-least, fill_of_base, next_is, IsBefore-trans, numeral, numeral-lt, numeral-mono}
+use Rattle.charge_state.proofs.Numerals.{AllLast, none_after_last, first-least, fill_of_base, next_is, numeral, numeral-lt, numeral-mono}
+use Rattle.charge_model.proofs.Order.{IsBefore-trans}
 
 contains_later : (x : List Charge) (xs : List (List Charge)) (e : List Charge) → Contains xs e → Contains (x ∷ xs) e
 contains_later x xs e (k, lt, at) = (suc k, omega (arith, lt), at)

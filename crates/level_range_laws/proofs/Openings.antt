@@ -1,5 +1,5 @@
 -- each prefix of a candidate of an interval is a range prefix
-use Rattle.std.proofs.Common.{◌≡◌, ◌≢◌, ℕ, zero, suc, ◌<◌, ◌≤◌, List, [], ◌∷◌, length, take, ℤ, pos, ◌-ℤ◌, ◌*ℤ◌, ◌≤ℤ◌, refl, sym, subst, ap, ◌∙◌, arith, ◌⊎◌, inl, inr, Bool, true, false, cond, eqb, ltb, ◌&&◌, ◌||◌}
+use Rattle.std.proofs.Common.{◌≡◌, ◌≢◌, ℕ, zero, suc, ◌<◌, ◌≤◌, List, [], ◌∷◌, length, take, ℤ, pos, ◌-ℤ◌, ◌*ℤ◌, ◌≤ℤ◌, refl, sym, subst, ap, ◌∙◌, arith, ◌⊎◌, inl, inr, Bool, true, false, cond, eqb, ltb, ◌||◌}
 use Rattle.std.specs.Prelude.{int_le}
 use Rattle.std.proofs.lemmas.Int.{ints}
 use Rattle.std.proofs.lemmas.Bool.{cases_eq, cases_lt, ne_eqb, eq-eqb, lt-ltb, le-ltb}
@@ -11,7 +11,6 @@ use Rattle.charge_model.specs.Charges.{charge_at, number_at, number_of, IsOfBase
 use Rattle.charge_model.specs.Problem.{Problem, Table, IsTable, IsProblem, class_of, near_class_of, hi_in}
 use Rattle.charge_model.specs.Rules.{sum_below, potential_at, potential_from, fixed_potential, slack, IsChargeList, at_site}
 use Rattle.charge_model.specs.Prefixes.{greatest_fixed, greatest_from, least_potential, greatest_potential, may_be_positive}
-use Rattle.charge_model.specs.Tree.{all_below}
 use Rattle.charge_model.proofs.Pairs.{class_below}
 use Rattle.charge_model.proofs.Products.{not_negative, le-greatest_product, le-scaled_sum, unscaled}
 use Rattle.charge_model.proofs.Sums.{mul-add}
@@ -20,6 +19,7 @@ use Rattle.level_range_laws.specs.declared.interval.Interval.{Interval}
 use Rattle.level_range_laws.specs.Levels.{at_level, gap_of, IsCandidateIn}
 use Rattle.level_range_laws.specs.RangePrefixes.{can_be_in, is_open_in, IsRangePrefix}
 use Rattle.level_range_laws.proofs.LevelFacts.{table_of, slack_above_minus, slack_above_plus, slack_below_minus, slack_below_plus, least_at}
+use Rattle.prefix_laws.proofs.NodeLemmas.{some_charge, all_below-of}
 
 -- a candidate, and a prefix of it
 pub record IsBegun (p : Problem) (levels : Interval) (c q : List Charge) : Type 0 where
@@ -138,21 +138,6 @@ own_charge p levels c q k Pos h l e =
     let first : eqb p.base 3 ≡ true = eq-eqb p.base 3 (three_of p c k h.is_problem h.candidate.is_list e) in
     let second = le-test (least_potential p q k) (levels.last -ℤ gap_of p) (omega (arith, ints, low, h.candidate.inside.to)) in
     rw (first, second) refl
-
-some_charge : (f : Charge → Bool) (d : Charge) (a b c : Bool) → f Neg ≡ a → f Neutral ≡ b → f Pos ≡ c → f d ≡ true → (a || b || c) ≡ true
-some_charge f Neg a b c first second third e = rw (sym first ∙ e) refl
-some_charge f Neutral true b c first second third e = refl
-some_charge f Neutral false b c first second third e = rw (sym second ∙ e) refl
-some_charge f Pos true b c first second third e = refl
-some_charge f Pos false true c first second third e = refl
-some_charge f Pos false false c first second third e = sym third ∙ e
-
-and_of : (a b : Bool) → a ≡ true → b ≡ true → (a && b) ≡ true
-and_of a b e f = rw (e, f) refl
-
-all_below-of : (n : ℕ) (f : ℕ → Bool) → ((k : ℕ) → k < n → f k ≡ true) → all_below n f ≡ true
-all_below-of zero f each = refl
-all_below-of (suc n) f each = and_of (all_below n f) (f n) (all_below-of n f (λ k l. each k (omega arith))) (each n (omega arith))
 
 open_of : (p : Problem) (levels : Interval) (c q : List Charge) → IsBegun p levels c q → is_open_in p levels q ≡ true
 unfolding is_open_in

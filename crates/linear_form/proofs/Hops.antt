@@ -9,7 +9,7 @@ use Rattle.charge_model.specs.declared.charge.Charge.TheVariants.{Neg, Neutral, 
 use Rattle.charge_model.specs.Charges.{number_of, number_at, charge_at, rank_of, raised, lowered}
 use Rattle.charge_model.specs.Problem.{Problem, Table, class_of, near_class_of, fixed_count, fixed_at}
 use Rattle.charge_model.specs.Rules.{sum_below, potential_below, potential_from, potential_at, energy, energy_below, hop_slack, near_energy, fixed_potential, fixed_energy_below}
-use Rattle.linear_form.proofs.Integers.{mul_assoc, mul-add, add-mul, neg-mul, sum_below-same, sum_below-change}
+use Rattle.charge_model.proofs.Sums.{mul_assoc, mul-add, add-mul, neg-mul, sum_below-same, sum_below-change}
 use Rattle.linear_form.proofs.Potentials.{energy_row, fixed_row, class_of-turned}
 
 -- a hop raises the one site's number by 1 and lowers the other's by 1

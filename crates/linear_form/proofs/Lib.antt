@@ -1,4 +1,3 @@
-pub mod Integers
 pub mod Products
 pub mod Weighed
 pub mod Potentials

@@ -4,7 +4,7 @@ use Rattle.std.proofs.lemmas.Int.{ints, to_z-of_z, fits_signed_from_abs}
 use Rattle.std.proofs.Math.IntN.{*ℤ_comm}
 use Rattle.charge_model.specs.Problem.{Problem, IsLeast, IsGreatest, AreSpans, lo_in, hi_in}
 use Rattle.charge_model.specs.Rules.{sum_below}
-use Rattle.linear_form.proofs.Integers.{mul_assoc, mul-add, mul-le, mul_negative-le, sum_below-le, sum_below-mul}
+use Rattle.charge_model.proofs.Sums.{mul_assoc, mul-add, mul-le, mul_negative-le, sum_below-le, sum_below-mul}
 use Rattle.linear_form.specs.Forms.{Linear, coefficient_at, weighed, weight_of}
 use Rattle.linear_form.specs.Parts.{pick, picked_below}
 

@@ -8,9 +8,9 @@ use Rattle.std.proofs.lemmas.Bool.{ne_eqb, eq-eqb}
 use Rattle.std.proofs.lemmas.List.{length-replicate, get_or-replicate}
 use Rattle.std.proofs.lemmas.List.Folds.{sum_by-replicate}
 use Rattle.charge_model.specs.declared.charge.Charge.{Charge}
-use Rattle.charge_model.specs.Problem.{Problem, Table, IsProblem, IsFixedCharge, class_of, near_class_of, fixed_count, fixed_at, pairs_before}
+use Rattle.charge_model.specs.Problem.{Problem, Table, IsProblem, IsFixedCharge, class_of, near_class_of, fixed_count, fixed_at}
 use Rattle.charge_model.specs.Charges.{number_at}
-use Rattle.linear_form.proofs.Integers.{mul_assoc, mul-add, sum_below-same, sum_below-mul}
+use Rattle.charge_model.proofs.Sums.{mul_assoc, mul-add, sum_below-same, sum_below-mul}
 use Rattle.std.proofs.Math.IntN.{*ℤ_comm, +ℤ_idr}
 use Rattle.charge_model.specs.Rules.{sum_below, potential_below, potential_from, energy_below, near_energy, fixed_potential, fixed_energy_below}
 use Rattle.linear_form.specs.Forms.{weighed, weight_of}
@@ -96,11 +96,6 @@ fixed_more p t i a sign start total end term is before added =
     let turned : term *ℤ u ≡ sign *ℤ (u *ℤ q) = rw is (mul_assoc sign q u ∙ ap (λ z. sign *ℤ z) (*ℤ_comm q u)) in
     let spread = mul-add sign (sum_below a (λ b. t.potential (near_class_of p i b) *ℤ fixed_at p b)) (u *ℤ q) in
     rw add-one (omega (arith, ints, before, added, turned, spread))
-
--- twice the pairs of the first i sites, by a product
-pub pairs_before-twice : (n i : ℕ) → i ≤ n → 2 * pairs_before n i + i * (i + 1) ≡ 2 * (i * n)
-pairs_before-twice n zero h = omega arith
-pairs_before-twice n (suc i) h = omega (arith, pairs_before-twice n i (omega arith))
 
 charges_size : (qs : List ℤ) → All IsFixedCharge qs → weight_of qs ≤ 3 * length qs
 charges_size [] all = omega arith

@@ -2,7 +2,7 @@
 use Rattle.std.proofs.Common.{◌≡◌, ℕ, ◌≤◌, ℤ, pos, negsuc, ◌*ℤ◌, ◌≤ℤ◌, ◌<ℤ◌, sym, ◌∙◌, subst, arith}
 use Rattle.std.proofs.lemmas.Int.{ints}
 use Rattle.charge_model.specs.Problem.{Problem, Table, UnderEveryTable, UnderSomeTable, IsLeast, IsGreatest}
-use Rattle.linear_form.proofs.Integers.{mul-le}
+use Rattle.charge_model.proofs.Sums.{mul-le}
 
 below_zero : (s : ℕ) (g q : ℤ) → 1 ≤ s → g <ℤ pos 0 → q ≤ℤ (pos s *ℤ g) → q <ℤ pos 0
 below_zero s (pos n) q one h le = absurd (omega (arith, ints, h))

@@ -8,7 +8,7 @@ use Rattle.charge_model.specs.declared.charge.Test.{Test}
 use Rattle.charge_model.specs.declared.charge.Test.TheVariants.{AboveMinus, AbovePlus, BelowMinus, BelowPlus}
 use Rattle.charge_model.specs.Problem.{Problem, Table}
 use Rattle.charge_model.specs.Rules.{test_slack, potential_at}
-use Rattle.linear_form.proofs.Integers.{mul-neg, mul-add}
+use Rattle.charge_model.proofs.Sums.{mul-neg, mul-add}
 use Rattle.linear_form.specs.Forms.{Linear, value_of, weighed}
 use Rattle.linear_form.specs.Parts.{sign_of, constant_of}
 

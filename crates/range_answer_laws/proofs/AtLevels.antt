@@ -1,6 +1,5 @@
 -- what is decided of charge lists at a level, by the extremes of the problem's own slacks
-use Rattle.std.proofs.Common.{◌≡◌, ℕ, List, length, ℤ, pos, negsuc, ◌+ℤ◌, ◌-ℤ◌, ◌*ℤ◌, ◌≤ℤ◌, ◌<ℤ◌, refl, ap, arith, Bool, true, false, inl, inr, ◌≤◌}
-use Rattle.std.specs.Prelude.{int_le}
+use Rattle.std.proofs.Common.{◌≡◌, List, length, ℤ, pos, ◌+ℤ◌, ◌-ℤ◌, ◌*ℤ◌, ◌≤ℤ◌, ◌<ℤ◌, ap, arith, inl, inr}
 use Rattle.std.proofs.lemmas.Int.{ints}
 use Rattle.std.proofs.lemmas.Bool.{cases_eq}
 use Rattle.charge_model.specs.declared.charge.Charge.{Charge}
@@ -9,10 +8,10 @@ use Rattle.charge_model.specs.Charges.{IsOfBase}
 use Rattle.charge_model.specs.Problem.{Problem, Table, IsProblem, UnderEveryTable, UnderSomeTable, IsLeast, IsGreatest, class_of, near_class_of}
 use Rattle.charge_model.specs.Rules.{energy, slack, Inequality, at_site, by_hop, IsInequalityOf, IsChargeList, IsPossiblyValid, IsCertainlyValid, Beats}
 use Rattle.charge_model.specs.GroundList.{IsCandidate}
-use Rattle.charge_model.proofs.Sums.{mul-add, mul-le}
+use Rattle.charge_model.proofs.Sums.{mul-add}
 use Rattle.window_laws.proofs.Windows.{raised_least, raised_greatest}
 use Rattle.certain_energy_laws.proofs.Extremes.{least_slack, greatest_slack, least_difference, greatest_difference}
-use Rattle.certain_energy_laws.proofs.Decisions.{Decided, both_decided, each_decided, less_decided}
+use Rattle.certain_energy_laws.proofs.Decisions.{Decided, both_decided, each_decided, kept_decided, less_decided, reached_decided}
 use Rattle.certain_energy_laws.proofs.Lists.{of_base_decided}
 use Rattle.marked_list_laws.proofs.LawsBelow.{AreLaws}
 use Rattle.level_range_laws.specs.Levels.{at_level}
@@ -111,28 +110,6 @@ unfolding energy class_of near_class_of
 greatest_difference_at p m w c is =
     let own = greatest_difference p w c is in
     (own.0, greatest_there p m (λ t. energy p t w -ℤ energy p t c) own.0 own.1)
-
--- a quantity is at least 0 under every table where its least value is
-kept_decided : (p : Problem) (f : Table → ℤ) (least : ℤ) → IsLeast p f least → Decided (UnderEveryTable p (λ t. pos 0 ≤ℤ f t))
-kept_decided p f least is = by (int_le (pos 0) least) refl
-  where
-    by : (r : Bool) → int_le (pos 0) least ≡ r → Decided (UnderEveryTable p (λ t. pos 0 ≤ℤ f t))
-    by true e = inl (λ t table. let bound = is.bounds t table in let scaled = mul-le (pos 0) least t.scale (omega (arith, ints)) in omega (arith, ints, bound, scaled))
-    by false e = inr (λ h. let at = is.reached in let kept = h at.0 at.1 in let same = at.2.1 in omega (arith, ints, kept, same))
-
--- a number below 0 stays below it, times a scale
-below_zero : (greatest : ℤ) (s : ℕ) → 1 ≤ s → greatest <ℤ pos 0 → (pos s *ℤ greatest) <ℤ pos 0
-below_zero greatest s positive less =
-    let scaled = mul-le greatest (negsuc 0) s (omega (arith, ints, less)) in omega (arith, ints, scaled, positive)
-
--- it is so under some table where its greatest value is
-reached_decided : (p : Problem) (f : Table → ℤ) (greatest : ℤ) → IsGreatest p f greatest → Decided (UnderSomeTable p (λ t. pos 0 ≤ℤ f t))
-reached_decided p f greatest is = by (int_le (pos 0) greatest) refl
-  where
-    by : (r : Bool) → int_le (pos 0) greatest ≡ r → Decided (UnderSomeTable p (λ t. pos 0 ≤ℤ f t))
-    by true e = let at = is.reached in let same = at.2.1 in inl (at.0, at.1, omega (arith, ints, same, e))
-    by false e = inr (λ (t, table, kept). let bound = is.bounds t table in
-        let less = below_zero greatest t.scale table.positive (omega (arith, ints, e)) in omega (arith, ints, bound, less, kept))
 
 -- where one holds exactly if the other does
 pub decided_by : (P Q : Type 0) → (P → Q) → (Q → P) → Decided P → Decided Q

@@ -4,7 +4,7 @@ use Rattle.std.proofs.lemmas.Int.{ints, by_lt_z}
 use Rattle.std.proofs.lemmas.Bool.{cases_eq, false≢true}
 use Rattle.charge_model.specs.declared.charge.Charge.{Charge}
 use Rattle.charge_model.specs.Charges.{IsBefore}
-use Rattle.window_laws.proofs.OrderLemmas.{IsBefore-irrefl, order_cases}
+use Rattle.charge_model.proofs.Order.{IsBefore-irrefl, order_cases}
 use Rattle.certain_energy_laws.proofs.Decisions.{Decided}
 use Rattle.level_range_laws.specs.Answers.{Outcome}
 

@@ -9,7 +9,7 @@ use Rattle.sidb_layout.specs.Site.{place_at}
 use Rattle.sidb_layout.specs.Layout.{Arrangement, IsLayout}
 use Rattle.sidb_lattice.specs.Classes.{IsClassing, AreClasses, IsBetween, IsDistance, classing_of, class_between, class_near, pair_distance, near_distance}
 use Rattle.sidb_lattice.specs.Measured.{AreAllPairs, AreAllNear, AreRising, ArePlaces}
-use Rattle.sidb_lattice.proofs.Pairs.{pairs_before-le, place_in_order, place_turned, row_within}
+use Rattle.charge_model.proofs.Pairs.{pairs_before-le, place_in_order, place_turned, row_within}
 use Rattle.sidb_lattice.proofs.Apart.{squared_distance-turned}
 
 -- the lists of a layout's squared distances, and the places of those in the rising list

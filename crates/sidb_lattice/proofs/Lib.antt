@@ -1,4 +1,3 @@
-pub mod Pairs
 pub mod Apart
 pub mod Rows
 pub mod Rising

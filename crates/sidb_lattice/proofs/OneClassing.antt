@@ -8,7 +8,7 @@ use Rattle.std.proofs.lemmas.Option.{slice_get_within, get_or_from_slice_get}
 use Rattle.charge_model.specs.Problem.{pairs_before}
 use Rattle.sidb_layout.specs.Layout.{Arrangement}
 use Rattle.sidb_lattice.specs.Classes.{Classing, IsClassing, AreClasses, IsBetween, class_between, class_near, pair_distance, near_distance}
-use Rattle.sidb_lattice.proofs.Pairs.{place_in_order}
+use Rattle.charge_model.proofs.Pairs.{place_in_order}
 use Rattle.sidb_lattice.proofs.SamePlaces.{same_pairs, same_near}
 
 pub equal_classes : (c : Classing) (k m d e : ℕ) → IsClassing c → slice_get c.distances k ≡ Some d

@@ -8,7 +8,7 @@ use Rattle.charge_model.specs.Problem.{pairs_before}
 use Rattle.sidb_layout.specs.Layout.{Arrangement}
 use Rattle.sidb_lattice.specs.Classes.{IsBetween, IsDistance, pair_distance, near_distance}
 use Rattle.sidb_lattice.specs.Measured.{ArePairsUpto, AreNearUpto}
-use Rattle.sidb_lattice.proofs.Pairs.{pairs_before-le}
+use Rattle.charge_model.proofs.Pairs.{pairs_before-le}
 
 pub pairs_more : (p : Arrangement) (i j : ℕ) (ds : List ℕ) (d : ℕ) → i < j → j < length p.sites → ArePairsUpto p i j ds
     → d ≡ pair_distance p i j → IsDistance d → ArePairsUpto p i (j + 1) (ds ++ d ∷ [])

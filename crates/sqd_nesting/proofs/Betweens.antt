@@ -10,7 +10,7 @@ use Rattle.sqd_nesting.specs.Faults.{IsStray, BeginsMark, IsFaultAt, IsFaultIn}
 use Rattle.sqd_nesting.specs.Views.{IsAhead}
 use Rattle.sqd_nesting.specs.declared.fault.MarkFault.{MarkFault}
 use Rattle.sqd_nesting.specs.declared.fault.MarkFault.TheVariants.{BadMark}
-use Rattle.sqd_nesting.proofs.Basics.{tells}
+use Rattle.sqd_marks.proofs.ByteFacts.{tells}
 
 pub not_less : (b : ℕ) → (b ≡ 60 → ⊥) → is_text b ≡ true
 not_less b h = elim (tells (eqb b 60)) [

@@ -8,8 +8,9 @@ use Rattle.sqd_nesting.specs.Texts.{Item, IsItem, item_bytes, is_text, Nest, IsO
 use Rattle.sqd_nesting.specs.Faults.{IsLoud, BeginsMark, IsBehind, IsFaultAt, IsFaultIn, IsFirstFault}
 use Rattle.sqd_nesting.specs.declared.fault.MarkFault.{MarkFault}
 use Rattle.sqd_nesting.specs.declared.fault.MarkFault.TheVariants.{BadMark, NotClosed, WrongClose, Doctype, Cdata, Memory}
-use Rattle.sqd_nesting.proofs.Once.{span, begin_stops, mark_stops, no_mark, each_quiet, blank_is_text, same_item}
+use Rattle.sqd_nesting.proofs.Once.{begin_stops, mark_stops, no_mark, each_quiet, blank_is_text, same_item}
 use Rattle.sqd_nesting.proofs.Causes.{Laws, some_end, no_bad, one_turn, one_cause, no_cause}
+use Rattle.sqd_marks.proofs.Spans.{span}
 
 -- a byte among those that pass
 each_in : (p : ℕ → Bool) (a x : List ℕ) (b : ℕ) → Each p (a ++ b ∷ x) → p b ≡ true

@@ -1,4 +1,3 @@
-pub mod Basics
 pub mod Betweens
 pub mod Turning
 pub mod Reading

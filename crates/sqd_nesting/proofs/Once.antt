@@ -1,5 +1,5 @@
 -- A text is cut into items in one way.
-use Rattle.std.proofs.Common.{◌≡◌, ◌∙◌, sym, ap, refl, subst, ℕ, List, [], ◌∷◌, ◌++◌, Bool, true, false, append_assoc, inl, inr, eqb, not}
+use Rattle.std.proofs.Common.{◌≡◌, ◌∙◌, sym, ap, refl, subst, ℕ, List, [], ◌∷◌, ◌++◌, Bool, true, append_assoc, inl, inr, eqb, not}
 use Rattle.std.specs.List.{flat_map, AllByRecursion}
 use Rattle.std.proofs.lemmas.List.{append-nil}
 use Rattle.std.proofs.lemmas.Bool.{eqb-true}
@@ -7,31 +7,13 @@ use Rattle.sqd_marks.specs.Bytes.{is_blank, Each, Stops}
 use Rattle.sqd_marks.specs.Marks.{Mark, start, empty, close, comment, declaration, doctype, cdata, IsMark, mark_bytes}
 use Rattle.sqd_nesting.specs.Texts.{Item, IsItem, item_bytes, is_text, IsWhole}
 use Rattle.sqd_nesting.specs.Faults.{BeginsMark}
-use Rattle.sqd_nesting.proofs.Basics.{tells}
+use Rattle.sqd_marks.proofs.ByteFacts.{tells}
 use Rattle.sqd_nesting.proofs.Reading.{begins_mark}
+use Rattle.sqd_marks.proofs.Spans.{span}
 
 -- what a text begins with is one mark
 abbrev pub OneMark : Type 0
 OneMark = (m n : Mark) (x y : List ℕ) → IsMark m → IsMark n → mark_bytes m ++ x ≡ mark_bytes n ++ y → m ≡ n
-
-pub record Same (a b x y : List ℕ) : Type 0 where
-  pub front : a ≡ b
-  pub rest : x ≡ y
-
--- bytes of a kind with none behind them are cut in one way
-pub span : (p : ℕ → Bool) (a b x y : List ℕ) → Each p a → Each p b → Stops p x → Stops p y → a ++ x ≡ b ++ y → Same a b x y
-span p [] [] x y h g s t e = record { front = refl; rest = e }
-span p [] (c ∷ b) x y h g s t e =
-    let no : p c ≡ false = subst (Stops p) e s in
-    absurd (cc (no, g.0))
-span p (c ∷ a) [] x y h g s t e =
-    let no : p c ≡ false = subst (Stops p) (sym e) t in
-    absurd (cc (no, h.0))
-span p (c ∷ a) (d ∷ b) x y h g s t e =
-    let first : c ≡ d = cc e in
-    let rest : a ++ x ≡ b ++ y = cc e in
-    let same = span p a b x y h.1 g.1 s t rest in
-    record { front = ap (λ n. n ∷ a) first ∙ ap (λ l. d ∷ l) same.front; rest = same.rest }
 
 pub begin_stops : (bytes : List ℕ) → BeginsMark bytes → Stops is_text bytes
 begin_stops [] h = tt

@@ -15,7 +15,7 @@ use Rattle.sqd_nesting.specs.Texts.{Item, IsItem, item_bytes, is_text, Opened, N
 use Rattle.sqd_nesting.specs.Faults.{IsStray, BeginsMark, IsFaultAt, IsFaultIn, IsFirstFault}
 use Rattle.sqd_nesting.specs.declared.fault.MarkFault.{MarkFault}
 use Rattle.sqd_nesting.specs.declared.fault.MarkFault.TheVariants.{BadMark, NotClosed, WrongClose, Doctype, Cdata}
-use Rattle.sqd_nesting.proofs.Basics.{tells}
+use Rattle.sqd_marks.proofs.ByteFacts.{tells}
 use Rattle.sqd_nesting.proofs.Turning.{tag_may_begin}
 use Rattle.sqd_nesting.proofs.Reading.{valid_more, nested_more, mark_some}
 

@@ -9,7 +9,8 @@ use Rattle.sqd_scan.specs.Scanning.{step}
 use Rattle.sqd_marks.specs.declared.kind.Kind.TheVariants as kinds
 use Rattle.sqd_scan.specs.declared.stage.Stage.{Stage}
 use Rattle.sqd_scan.specs.declared.stage.Stage.TheVariants.{Begin, Open, Name, Space, AttributeName, AttributeGap, Equals, Value, ValueEnd, Slash, EndOpen, EndName, EndGap, InComment, OneDash, TwoDashes, InDeclaration, Question, Done}
-use Rattle.sqd_scan.proofs.Runs.{then, run, tells, cond_true, cond_false, go, run_each, blank_not_name, begins_in_name, name_not_blank, and_true, not_true}
+use Rattle.sqd_scan.proofs.Runs.{then, run, go, run_each, and_true, not_true}
+use Rattle.sqd_marks.proofs.ByteFacts.{tells, cond_true, cond_false, blank_not_name, begins_in_name, name_not_blank}
 
 -- a stage in which a part of a tag is whole
 pub record IsPart (stage : Stage) : Type 0 where

@@ -11,9 +11,10 @@ use Rattle.sqd_marks.specs.declared.kind.Kind.{Kind}
 use Rattle.sqd_marks.specs.declared.kind.Kind.TheVariants as kinds
 use Rattle.sqd_scan.specs.declared.stage.Stage.{Stage}
 use Rattle.sqd_scan.specs.declared.stage.Stage.TheVariants.{Begin, Open, Name, Space, AttributeName, AttributeGap, Equals, Value, ValueEnd, Slash, EndOpen, EndName, EndGap, Bang, Dash, InComment, OneDash, TwoDashes, InDoctype, InCdata, InDeclaration, Question, Done}
-use Rattle.sqd_scan.proofs.Runs.{then, run, go, cond_true, run_append}
+use Rattle.sqd_scan.proofs.Runs.{then, run, go, run_append}
 use Rattle.sqd_scan.proofs.Complete.{complete}
 use Rattle.sqd_scan.proofs.Passing.{sound}
+use Rattle.sqd_marks.proofs.ByteFacts.{cond_true}
 
 -- a stage with numbers as they may be
 abbrev pub IsLive : Stage → Type 0

@@ -11,9 +11,10 @@ use Rattle.sqd_marks.specs.declared.kind.Kind.{Kind}
 use Rattle.sqd_marks.specs.declared.kind.Kind.TheVariants as kinds
 use Rattle.sqd_scan.specs.declared.stage.Stage.{Stage}
 use Rattle.sqd_scan.specs.declared.stage.Stage.TheVariants.{Begin, Open, Name, Space, AttributeName, AttributeGap, Equals, Value, ValueEnd, Slash, EndOpen, EndName, EndGap, Bang, Dash, InComment, OneDash, TwoDashes, InDoctype, InCdata, InDeclaration, Question, Done}
-use Rattle.sqd_scan.proofs.Runs.{run, tells, back, dead, cond_true, cond_false, each_more, name_more}
+use Rattle.sqd_scan.proofs.Runs.{run, back, dead, name_more}
 use Rattle.sqd_scan.proofs.Sound.{InTag, InAttribute, InEquals, InValue, Reaches, done_end, CommentRest, comment_sound, DeclarationRest, declaration_sound}
 use Rattle.sqd_scan.proofs.Tags.{InSpace, tag_named, tag_blank, tag_start, tag_empty, attribute_begins, attribute_named, attribute_blank, attribute_equals, equals_blank, equals_quote, value_more, value_ends}
+use Rattle.sqd_marks.proofs.ByteFacts.{tells, cond_true, cond_false, each_more}
 
 -- what holds of fewer bytes
 abbrev pub Known : List ℕ → Kind → Type 0

@@ -1,9 +1,9 @@
 -- Steps of the scanner over some bytes.
-use Rattle.std.proofs.Common.{◌≡◌, ◌∙◌, sym, ap, refl, subst, ℕ, List, [], ◌∷◌, ◌++◌, Option, None, Some, Bool, true, false, cond, ◌⊎◌, inl, inr, eqb, leb, ◌&&◌, ◌||◌, not}
-use Rattle.std.proofs.lemmas.Bool.{eqb-true}
-use Rattle.sqd_marks.specs.Bytes.{is_blank, begins_name, is_in_name, Each, IsName}
+use Rattle.std.proofs.Common.{◌≡◌, ◌∙◌, sym, ap, refl, ℕ, List, [], ◌∷◌, ◌++◌, Option, None, Some, Bool, true, false, cond, ◌⊎◌, inl, inr, ◌&&◌, ◌||◌, not}
+use Rattle.sqd_marks.specs.Bytes.{is_in_name, Each, IsName}
 use Rattle.sqd_scan.specs.Scanning.{step}
 use Rattle.sqd_scan.specs.declared.stage.Stage.{Stage}
+use Rattle.sqd_marks.proofs.ByteFacts.{each_more}
 
 -- the stage after some bytes
 abbrev pub then : Option Stage → List ℕ → Option Stage
@@ -14,19 +14,6 @@ then (Some stage) (b ∷ bs) = then (step stage b) bs
 abbrev pub run : Stage → List ℕ → Option Stage
 run stage bs = then (Some stage) bs
 
--- the two ways of a choice
-pub tells : (t : Bool) → (t ≡ true) ⊎ (t ≡ false)
-tells true = inl refl
-tells false = inr refl
-
-pub cond_true : {X : Type 0} (t : Bool) (x y : X) → t ≡ true → cond t x y ≡ x
-cond_true true x y e = refl
-cond_true false x y e = absurd (cc)
-
-pub cond_false : {X : Type 0} (t : Bool) (x y : X) → t ≡ false → cond t x y ≡ y
-cond_false true x y e = absurd (cc)
-cond_false false x y e = refl
-
 pub cases : (t : Bool) (x y : Option Stage) (s : List ℕ) (r : Option Stage) → then (cond t x y) s ≡ r → ((t ≡ true) × (then x s ≡ r)) ⊎ ((t ≡ false) × (then y s ≡ r))
 cases true x y s r e = inl (refl, e)
 cases false x y s r e = inr (refl, e)
@@ -34,10 +21,6 @@ cases false x y s r e = inr (refl, e)
 pub or_false : (a b : Bool) → (a || b) ≡ false → (a ≡ false) × (b ≡ false)
 or_false true b e = absurd (cc)
 or_false false b e = (refl, e)
-
-pub or_true : (a b : Bool) → (a || b) ≡ true → (a ≡ true) ⊎ (b ≡ true)
-or_true true b e = inl refl
-or_true false b e = inr e
 
 pub and_true : (a b : Bool) → (a && b) ≡ true → (a ≡ true) × (b ≡ true)
 and_true true b e = (refl, e)
@@ -60,33 +43,6 @@ go stage next b more e = ap (λ o. then o more) e
 pub run_each : (p : ℕ → Bool) (stage : Stage) → ((b : ℕ) → p b ≡ true → step stage b ≡ Some stage) → (x more : List ℕ) → Each p x → run stage (x ++ more) ≡ run stage more
 run_each p stage stays [] more h = refl
 run_each p stage stays (b ∷ x) more h = go stage stage b (x ++ more) (stays b h.0) ∙ run_each p stage stays x more h.1
-
--- a blank is none of the bytes of names
-pub blank_not_name : (b : ℕ) → is_blank b ≡ true → is_in_name b ≡ false
-blank_not_name b h = elim (or_true (eqb b 32 || eqb b 9 || eqb b 13) (eqb b 10) h) [
-  | inl e ↦ elim (or_true (eqb b 32 || eqb b 9) (eqb b 13) e) [
-    | inl f ↦ elim (or_true (eqb b 32) (eqb b 9) f) [
-      | inl g ↦ subst (λ n. is_in_name n ≡ false) (sym (eqb-true b 32 g)) refl
-      | inr g ↦ subst (λ n. is_in_name n ≡ false) (sym (eqb-true b 9 g)) refl
-    ]
-    | inr f ↦ subst (λ n. is_in_name n ≡ false) (sym (eqb-true b 13 f)) refl
-  ]
-  | inr e ↦ subst (λ n. is_in_name n ≡ false) (sym (eqb-true b 10 e)) refl
-]
-
-pub begins_in_name : (b : ℕ) → begins_name b ≡ true → is_in_name b ≡ true
-begins_in_name b h = ap (λ t. t || leb 48 b && leb b 57 || eqb b 45 || eqb b 46) h
-
-pub name_not_blank : (b : ℕ) → is_in_name b ≡ true → is_blank b ≡ false
-name_not_blank b h = elim (tells (is_blank b)) [
-  | inl e ↦ let no = blank_not_name b e in absurd (cc (no, h))
-  | inr e ↦ e
-]
-
--- more bytes of a kind
-pub each_more : (p : ℕ → Bool) (w : List ℕ) (b : ℕ) → Each p w → p b ≡ true → Each p (w ++ b ∷ [])
-each_more p [] b h e = (e, tt)
-each_more p (x ∷ w) b h e = (h.0, each_more p w b h.1 e)
 
 pub name_more : (n : List ℕ) (b : ℕ) → IsName n → is_in_name b ≡ true → IsName (n ++ b ∷ [])
 name_more [] b h e = absurd h

@@ -10,7 +10,8 @@ use Rattle.sqd_marks.specs.declared.kind.Kind.{Kind}
 use Rattle.sqd_marks.specs.declared.kind.Kind.TheVariants as kinds
 use Rattle.sqd_scan.specs.declared.stage.Stage.{Stage}
 use Rattle.sqd_scan.specs.declared.stage.Stage.TheVariants.{Begin, Open, Name, Space, AttributeName, AttributeGap, Equals, Value, ValueEnd, Slash, EndOpen, EndName, EndGap, Bang, Dash, InComment, OneDash, TwoDashes, InDoctype, InCdata, InDeclaration, Question, Done}
-use Rattle.sqd_scan.proofs.Runs.{then, run, tells, back, cond_true, cond_false}
+use Rattle.sqd_scan.proofs.Runs.{then, run, back}
+use Rattle.sqd_marks.proofs.ByteFacts.{tells, cond_true, cond_false}
 
 -- a tag's front: the tag so far
 pub record InTag (p : List ℕ) : Type 0 where

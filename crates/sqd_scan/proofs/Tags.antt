@@ -7,8 +7,9 @@ use Rattle.sqd_marks.specs.Bytes.{is_blank, begins_name, is_in_name, IsName, is_
 use Rattle.sqd_marks.specs.Marks.{Attribute, IsAttribute, start, empty, attribute_bytes, tag_bytes}
 use Rattle.sqd_scan.specs.Fronts.{IsOf}
 use Rattle.sqd_marks.specs.declared.kind.Kind.TheVariants as kinds
-use Rattle.sqd_scan.proofs.Runs.{each_more, name_more}
+use Rattle.sqd_scan.proofs.Runs.{name_more}
 use Rattle.sqd_scan.proofs.Sound.{InTag, InAttribute, InEquals, InValue}
+use Rattle.sqd_marks.proofs.ByteFacts.{each_more}
 
 not_nil : (w : List ℕ) (b : ℕ) → w ++ b ∷ [] ≢ []
 not_nil [] b e = cc

@@ -3,7 +3,7 @@ use Rattle.std.proofs.lemmas.Int.{ints, to_z-of_z, fits_signed_from_abs}
 use Rattle.std.proofs.lemmas.List.Sums.{sum_by_more, get_or-le-sum_by}
 use Rattle.charge_model.specs.Rules.{sum_below}
 use Rattle.linear_form.specs.Forms.{coefficient_at, weighed}
-use Rattle.linear_form.proofs.Integers.{neg-mul}
+use Rattle.charge_model.proofs.Sums.{neg-mul}
 use Rattle.linear_form.proofs.form.subtract.Goals as goal
 
 pub loop-c-preserved : goal.loop-c-preserved

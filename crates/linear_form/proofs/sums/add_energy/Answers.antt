@@ -3,8 +3,9 @@ use Rattle.std.proofs.lemmas.Int.{to_z-of_z}
 use Rattle.charge_model.specs.Charges.{number_at, number_of}
 use Rattle.charge_model.specs.Rules.{energy, energy_below, fixed_energy_below}
 use Rattle.linear_form.specs.Forms.{weighed, weight_of}
-use Rattle.linear_form.proofs.Potentials.{energy_more, few_charges, pairs_before-twice}
+use Rattle.linear_form.proofs.Potentials.{energy_more, few_charges}
 use Rattle.linear_form.proofs.sums.add_energy.Goals as goal
+use Rattle.charge_model.proofs.Pairs.{pairs_before-twice}
 
 pub add_fixed-requires-clause-room : goal.add_fixed-requires-clause-room
 add_fixed-requires-clause-room c =

@@ -1,7 +1,7 @@
 use Rattle.std.proofs.Common.{◌*ℤ◌, FitsSigned, w64, arith, ap}
 use Rattle.std.proofs.lemmas.Int.{ints, to_z-of_z}
 use Rattle.charge_model.specs.Rules.{potential_at, potential_below, fixed_potential}
-use Rattle.linear_form.proofs.Integers.{mul-add}
+use Rattle.charge_model.proofs.Sums.{mul-add}
 use Rattle.linear_form.proofs.Potentials.{few_charges}
 use Rattle.linear_form.proofs.sums.add_potential.Goals as goal
 

@@ -1,5 +1,5 @@
 use Rattle.std.proofs.Common.{arith, suc}
-use Rattle.sidb_lattice.proofs.Pairs.{pairs_before-twice, pairs_before-le}
+use Rattle.charge_model.proofs.Pairs.{pairs_before-twice, pairs_before-le}
 use Rattle.sidb_lattice.proofs.classes.pair_place.Goals as goal
 
 pub returns-clause-value : goal.returns-clause-value

@@ -1,6 +1,6 @@
 use Rattle.std.proofs.Common.{sym, ◌∙◌, ◌≡◌, true, false, not, Bool}
 use Rattle.sqd_marks.specs.Bytes.{is_blank}
-use Rattle.sqd_nesting.proofs.Basics.{each_taken}
+use Rattle.sqd_marks.proofs.ByteFacts.{each_taken}
 use Rattle.sqd_nesting.proofs.between.first_not_blank.Goals as goal
 
 not_false : (a : Bool) → not a ≡ false → a ≡ true

@@ -1,6 +1,6 @@
 use Rattle.sqd_nesting.specs.Texts.{is_text}
 use Rattle.sqd_nesting.proofs.Betweens.{not_less}
-use Rattle.sqd_nesting.proofs.Basics.{each_taken}
+use Rattle.sqd_marks.proofs.ByteFacts.{each_taken}
 use Rattle.sqd_nesting.proofs.between.text_len.Goals as goal
 
 pub loop-i-preserved : goal.loop-i-preserved

@@ -2,7 +2,7 @@ use Rattle.std.proofs.Common.{◌≡◌, ◌+◌, ◌-◌, ◌<◌, suc, min, ma
 use Rattle.std.proofs.lemmas.List.{get_or_read}
 use Rattle.charge_model.specs.Problem.{pairs_before}
 use Rattle.sidb_lattice.specs.Classes.{class_between}
-use Rattle.sidb_lattice.proofs.Pairs.{place_in_order, place_turned}
+use Rattle.charge_model.proofs.Pairs.{place_in_order, place_turned}
 use Rattle.sidb_lattice.proofs.classes.Classes.class.Goals as goal
 use Rattle.sidb_lattice.proofs.classes.Classes.class.Goals.{then-i-j, else-i-j}
 

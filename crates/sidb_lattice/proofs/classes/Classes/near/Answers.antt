@@ -1,7 +1,7 @@
 use Rattle.std.proofs.Common.{◌+◌, ◌*◌, ◌<◌, length, arith}
 use Rattle.std.proofs.lemmas.List.{get_or_read}
 use Rattle.sidb_lattice.specs.Classes.{class_near}
-use Rattle.sidb_lattice.proofs.Pairs.{row_within}
+use Rattle.charge_model.proofs.Pairs.{row_within}
 use Rattle.sidb_lattice.proofs.classes.Classes.near.Goals as goal
 
 pub returns-clause-value : goal.returns-clause-value
