@@ -7,8 +7,9 @@ use Rattle.written_tokens.proofs.guide.Guide.refused_token.Goals as goal
 
 pub returns-clause-found : goal.returns-clause-found
 returns-clause-found c =
+    let g = seen c.self.inside in
     let q = c.args.track.now.prefix ++ c.args.charge ∷ [] in
-    inl (closes_first _ q c.refused_at.result c.refused_at.ensures)
+    subst (λ u. IsTokenAt u q (Site c.refused_at.result)) c.self.view_is (inl (closes_first g.problem q c.refused_at.result c.refused_at.ensures))
 
 pub returns-clause-only : goal.returns-clause-only
 returns-clause-only c other at =
@@ -17,4 +18,4 @@ returns-clause-only c other at =
     let laws = c.prefixes_have_one_token.ensures in
     one_token g q other (Site c.refused_at.result) (laws.closing g.problem g.window g.threshold g.lists q) (laws.apart g.problem g.window g.threshold g.lists q)
     (λ s t x y. laws.full g.problem g.window g.lists q s t c.self.invariant.in_order x y)
-    (subst (λ u. IsTokenAt u q other) (sym c.self.view_is) at) (inl (closes_first _ q c.refused_at.result c.refused_at.ensures))
+    (subst (λ u. IsTokenAt u q other) (sym c.self.view_is) at) (inl (closes_first g.problem q c.refused_at.result c.refused_at.ensures))
