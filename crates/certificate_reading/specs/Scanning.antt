@@ -1,7 +1,7 @@
 -- where the reader of the lines behind a table stands
 use Rattle.std.specs.Prelude.{◌≡◌, ℕ, ◌+◌, ◌≤◌, List, [], ◌∷◌, ◌++◌, map, length, drop, All}
 use Rattle.std.specs.List.{filter}
-use Rattle.sidb_units.specs.declared.TheConstants.{MAX_ENTRIES}
+use Rattle.sidb_units.specs.declared.TheConstants.{MAX_ENTRIES, MAX_TOKENS}
 use Rattle.charge_model.specs.Problem.{Problem}
 use Rattle.charge_model.specs.GroundList.{Entry as Marked}
 use Rattle.certificate_model.specs.declared.token.Token.{Token}
@@ -14,7 +14,6 @@ use Rattle.certificate_reading.specs.declared.counts.Part.{Part}
 use Rattle.certificate_reading.specs.declared.counts.Part.TheVariants as part
 use Rattle.certificate_reading.specs.declared.counts.Counts.{Counts}
 use Rattle.certificate_reading.specs.declared.scanned.Scanned.{Scanned}
-use Rattle.certificate_reading.specs.declared.range.TheConstants.{MAX_TOKENS}
 use Rattle.certificate_reading.specs.declared.fault.CertText.{CertText}
 use Rattle.certificate_reading.specs.declared.fault.CertText.TheVariants.{Line}
 use Rattle.certificate_reading.specs.Counts.{no_counts, counts_after, counts_of}

@@ -45,21 +45,6 @@ pub fn can_by_parts(
     allows(problem, charge, extremes)
 }
 
-/// Whether an assigned site k keeps the prefix open: whether it can have its charge.
-#[tactic(auto, using(crate::proofs::Opening::can_allows, crate::proofs::Opening::assigned_keeps))]
-pub fn assigned_keeps_open(
-    problem: &Problem,
-    prefix: &Charges,
-    k: usize,
-    extremes: Extremes,
-) -> bool
-    requires assigned { k < length prefix.now }
-    requires extremes { AreExtremes problem.now prefix.now k extremes }
-    ensures { result ≡ keeps_open problem.now prefix.now k }
-{
-    allows(problem, prefix.at(k), extremes)
-}
-
 /// Whether an unassigned site k of base 2 keeps the prefix open: it can have some charge where its
 /// greatest potential reaches mu_plus, since its least is not above its greatest.
 #[tactic(auto, using(crate::proofs::Ordered::two_keep))]

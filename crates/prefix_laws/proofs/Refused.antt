@@ -53,6 +53,9 @@ can_kept p q c Neg = rw (greatest_kept p q c) refl
 can_kept p q c Neutral = rw (greatest_kept p q c, least_kept p q c) refl
 can_kept p q c Pos = rw (least_kept p q c) refl
 
+pub own_kept : (p : Problem) (q : List Charge) (c : Charge) → can_be p (q ++ c ∷ []) (length q) c ≡ can_be p q (length q) c
+own_kept p q c = can_kept p q c c
+
 both_ways : (b : Bool) → b ≡ true → b ≡ false → ⊥
 both_ways true e f = cc
 both_ways false e f = cc

@@ -16,4 +16,4 @@ pub use parts::{add_part, part_in};
 pub use row::{Row, empty_row, row_in};
 pub use rows::{advance, row_whole};
 pub use tables::{first_parts, first_rows, pair_parts, span_rows, unassigned_rows};
-pub use verdicts::{rows_closed_at, rows_low, rows_open};
+pub use verdicts::{refused_at, rows_closed_at, rows_low, rows_open};

@@ -138,7 +138,8 @@ fn charged(charge: Charge, span: Extremes) -> Extremes
     }
 }
 
-fn next_extremes(
+/// The assigned part of site k after one more charge.
+pub fn next_extremes(
     problem: &Problem,
     prefix: &Charges,
     charge: Charge,

@@ -27,7 +27,7 @@ pub const MAX_ENTRIES: usize = 4_096;
 pub const MAX_CERTIFICATE_BYTES: usize = 268_435_456;
 
 /// The most tokens of a certificate: three a node, and one.
-pub const MAX_TOKENS: usize = 30_000_001;
+pub const MAX_TOKENS: u64 = 30_000_001;
 
 /// The greatest node limit.
 pub const MAX_NODES: u64 = 10_000_000;

@@ -1,4 +1,5 @@
-ghost use Rattle.std.specs.Prelude.{◌≡◌, IfOk};
+ghost use Rattle.std.specs.Prelude.{◌≡◌, ◌≢◌, ◌<◌, ◌++◌, ◌∷◌, [], length, false, IfOk};
+ghost use Rattle.charge_model.specs.Prefixes.{can_be};
 ghost use Rattle.charge_model.specs.GroundList.{lists_of};
 ghost use Rattle.certificate_model.specs.declared.token.Token.{Token as TokenData};
 ghost use Rattle.tree_leaves.specs.Subtree.{IsPrefix};
@@ -8,6 +9,7 @@ ghost use Rattle.written_tokens.specs.Guiding.{IsTokenAt};
 use crate::entries::{Entries, entries_of};
 use crate::next::token_at;
 use certificate_model::Token;
+use charge_state::Charge;
 use ground_entries::GroundList;
 use potential_problem::Problem;
 use prefix_bound::Track;
@@ -93,5 +95,20 @@ impl<'a> Guide<'a> {
             Ok(token) => Ok(token),
             Err(Memory) => Err(Memory),
         }
+    }
+
+    /// The token of the prefix of a track with one more charge, which the next site can't have.
+    pub fn refused_token(&self, track: &Track, charge: Charge) -> Token
+        requires problem { track.now.problem ≡ self.now.problem }
+        requires room { length track.now.prefix < self.now.problem.sites }
+        requires refused { can_be self.now.problem track.now.prefix (length track.now.prefix) charge
+            ≡ false }
+        ensures found { IsTokenAt self.now (track.now.prefix ++ charge ∷ []) result }
+        ensures only { (other : TokenData)
+            → IsTokenAt self.now (track.now.prefix ++ charge ∷ []) other → other ≡ result }
+        ensures closes { result ≢ Token.Node }
+    {
+        prefixes_have_one_token();
+        Token::Site(track.refused_at(self.problem, charge))
     }
 }

@@ -13,7 +13,7 @@ either_way P n before after j = by (cases_lt j n)
 pub returns-then-not-open-clause-none : goal.returns-then-not-open-clause-none
 returns-then-not-open-clause-none c =
     let inside : c.loop-k.k < c.args.problem.now.sites = omega (arith, c.loop-k-test.true, c.len-depth.ensures.value, c.requires.short) in
-    sym (c.sites_decide.ensures.closes c.args.problem.now c.args.prefix.now c.loop-k.k inside (sym c.assigned_keeps_open-open.ensures ∙ c.if-not-open.true))
+    sym (c.sites_decide.ensures.closes c.args.problem.now c.args.prefix.now c.loop-k.k inside (sym c.site_open-open.ensures ∙ c.if-not-open.true))
 
 pub returns-then-base-eq3-clause-none : goal.returns-then-base-eq3-clause-none
 returns-then-base-eq3-clause-none c =
