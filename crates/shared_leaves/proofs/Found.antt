@@ -13,7 +13,7 @@ use Rattle.tree_leaves.proofs.Counts.{count_root}
 use Rattle.tree_leaves.proofs.Branches.{IsTested, leaves_of_root}
 use Rattle.shared_leaves.specs.declared.sharing.Share.{Share}
 use Rattle.shared_leaves.specs.declared.joining.Missed.{Missed}
-use Rattle.shared_leaves.specs.declared.joining.Missed.TheVariants.{Budget, Memory}
+use Rattle.shared_leaves.specs.declared.joining.Missed.TheVariants.{Budget, Stopped, Memory}
 use Rattle.shared_leaves.specs.Shares.{nodes_of, AreLeavesOf, AreShares}
 use Rattle.shared_leaves.specs.Finds.{AreFound, IsFoundOf, IsMissed, IsJoined}
 
@@ -37,6 +37,7 @@ module _ (p : Problem) (o : Option ℤ) (limit : ℕ) where
 
   missed_of : (xs : List Share) (rs : List (Result Leaves Missed)) (e : Missed) → AllZip (IsFoundOf p o limit) xs rs → Contains rs (Err e) → IsMissed p o limit xs e
   missed_of xs rs Budget h held = over_at xs rs held.0 (Err Budget) h held.1 held.2
+  missed_of xs rs Stopped h held = tt
   missed_of xs rs Memory h held = tt
 
   -- what was gathered out of the references to a slice
