@@ -14,6 +14,8 @@ mod of_occupation;
 #[cfg(test)]
 mod of_shared_board;
 #[cfg(test)]
+mod of_shared_leaves;
+#[cfg(test)]
 mod of_sidb_units;
 #[cfg(test)]
 mod problems;

@@ -1,11 +1,11 @@
 -- what are no leaves, and no answers
-use Rattle.std.proofs.Common.{pos, [], ◌∷◌, arith, Some, None}
+use Rattle.std.proofs.Common.{pos, neg_ℤ, [], ◌∷◌, arith, Some, None}
 use Rattle.charge_model.specs.declared.charge.Charge.TheVariants.{Neg}
 use Rattle.tree_leaves.specs.declared.leaf_list.LeavesAnswer.TheVariants.{Budget}
 use Rattle.tree_leaves.specs.Leaves.{AreLeaves}
-use Rattle.tree_leaves.specs.Answer.{IsListed, IsLeavesAnswer}
+use Rattle.tree_leaves.specs.Answer.{IsListed, IsListedUnder, IsLeavesAnswer}
 use Rattle.tree_leaves.specs.Subtree.{IsAtMost, IsPrefix}
-use Rattle.tree_leaves.proofs.StandardFacts.{sites_apart, no_site_leaves, no_site_nodes}
+use Rattle.tree_leaves.proofs.StandardFacts.{sites_apart, no_site_leaves, no_site_nodes, one_site_none_below}
 
 -- a list is missing, stands twice, is too long
 no_list_lost : AreLeaves (sites_apart 0) None [] → ⊥
@@ -30,3 +30,6 @@ none_is_highest h = h
 
 no_long_prefix : IsPrefix (sites_apart 0) (Neg ∷ []) → ⊥
 no_long_prefix is = omega (arith, is.short)
+
+no_node_below : IsListedUnder (sites_apart 1) (Some (neg_ℤ (pos 1))) [] 1 (record { lists = []; nodes = 1 }) → ⊥
+no_node_below is = let wrong = is.nodes in let none = one_site_none_below in omega (arith, wrong, none)

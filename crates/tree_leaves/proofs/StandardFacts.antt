@@ -1,5 +1,5 @@
 -- the leaves and the nodes of small problems, worked by hand
-use Rattle.std.proofs.Common.{◌≡◌, ℕ, zero, suc, pos, neg_ℤ, List, [], ◌∷◌, length, refl, sym, arith, Some, None}
+use Rattle.std.proofs.Common.{◌≡◌, ℕ, zero, suc, pos, neg_ℤ, List, [], ◌∷◌, length, refl, sym, arith, Some, None, false}
 use Rattle.std.specs.Prelude.{All}
 use Rattle.std.proofs.lemmas.Int.{ints}
 use Rattle.std.proofs.lemmas.List.{length-take}
@@ -10,8 +10,9 @@ use Rattle.charge_model.specs.GroundList.{IsCandidate}
 use Rattle.charge_model.specs.Prefixes.{least_fixed, greatest_fixed, least_potential, greatest_potential, may_be_positive, can_be, least_known, greatest_known, site_low, pair_low, low}
 use Rattle.charge_model.specs.Tree.{IsInTree, is_open, is_node, node_count}
 use Rattle.tree_leaves.specs.Leaves.{AreLeaves}
-use Rattle.tree_leaves.specs.Answer.{IsListed}
+use Rattle.tree_leaves.specs.Answer.{IsListed, IsListedUnder}
 use Rattle.tree_leaves.specs.Subtree.{nodes_under, IsAtMost}
+use Rattle.tree_leaves.proofs.Branches.{leaves_closed}
 
 -- a problem of so many sites without classes
 abbrev pub sites_apart : ℕ → Problem
@@ -31,9 +32,13 @@ one_site_nodes : nodes_under (sites_apart 1) (Some (pos 0)) [] ≡ 2
 unfolding nodes_under is_node is_open low pair_low site_low least_known greatest_known can_be greatest_potential greatest_fixed may_be_positive least_potential least_fixed class_of near_class_of
 one_site_nodes = refl
 
-one_site_none_below : nodes_under (sites_apart 1) (Some (neg_ℤ (pos 1))) [] ≡ 0
+pub one_site_none_below : nodes_under (sites_apart 1) (Some (neg_ℤ (pos 1))) [] ≡ 0
 unfolding nodes_under is_node is_open low pair_low site_low least_known greatest_known can_be greatest_potential greatest_fixed may_be_positive least_potential least_fixed class_of near_class_of
 one_site_none_below = refl
+
+pub one_site_no_node : is_node (sites_apart 1) (Some (neg_ℤ (pos 1))) [] ≡ false
+unfolding is_node is_open low pair_low site_low least_known greatest_known can_be greatest_potential greatest_fixed may_be_positive least_potential least_fixed class_of near_class_of
+one_site_no_node = refl
 
 pub no_site_nodes : node_count (sites_apart 0) None ≡ 1
 unfolding node_count is_node is_open
@@ -71,3 +76,7 @@ no_site_leaves = record {
 
 no_site_listed : IsListed (sites_apart 0) None 1 (record { lists = [] ∷ []; nodes = 1 })
 no_site_listed = record { leaves = no_site_leaves; nodes = sym no_site_nodes; within = let one = no_site_nodes in omega (arith, one) }
+
+-- of one site nothing begins with a prefix that is no node
+no_leaf_below : IsListedUnder (sites_apart 1) (Some (neg_ℤ (pos 1))) [] 1 (record { lists = []; nodes = 0 })
+no_leaf_below = record { leaves = leaves_closed (sites_apart 1) (Some (neg_ℤ (pos 1))) [] one_site_no_node; nodes = sym one_site_none_below; within = let none = one_site_none_below in omega (arith, none) }

@@ -1,8 +1,10 @@
 -- what a search for the leaves of a tree answers
-use Rattle.std.specs.Prelude.{◌≡◌, ℕ, ◌<◌, ◌≤◌, ℤ, Option}
+use Rattle.std.specs.Prelude.{◌≡◌, ℕ, ◌<◌, ◌≤◌, ℤ, List, Option}
+use Rattle.charge_model.specs.declared.charge.Charge.{Charge}
 use Rattle.charge_model.specs.Problem.{Problem}
 use Rattle.charge_model.specs.Tree.{node_count}
 use Rattle.tree_leaves.specs.Leaves.{Leaves, AreLeaves}
+use Rattle.tree_leaves.specs.Subtree.{nodes_under, AreLeavesUnder}
 use Rattle.tree_leaves.specs.declared.leaf_list.LeavesAnswer.{LeavesAnswer}
 use Rattle.tree_leaves.specs.declared.leaf_list.LeavesAnswer.TheVariants.{Lists, Budget, Memory}
 
@@ -11,6 +13,13 @@ pub record IsListed (p : Problem) (bound : Option ℤ) (limit : ℕ) (l : Leaves
   pub leaves : AreLeaves p bound l.lists
   pub nodes : l.nodes ≡ node_count p bound
   pub within : node_count p bound ≤ limit
+
+-- the leaves that begin with a prefix, with the count of nodes that do, which keeps the limit
+pub record IsListedUnder (p : Problem) (threshold : Option ℤ) (prefix : List Charge) (limit : ℕ)
+    (l : Leaves) : Type 0 where
+  pub leaves : AreLeavesUnder p threshold prefix l.lists
+  pub nodes : l.nodes ≡ nodes_under p threshold prefix
+  pub within : nodes_under p threshold prefix ≤ limit
 
 -- the leaves, or that the tree has more nodes than the limit
 abbrev pub IsLeavesAnswer : Problem → Option ℤ → ℕ → LeavesAnswer → Type 0

@@ -3,7 +3,7 @@ ghost use Rattle.charge_model.specs.declared.charge.Charge.TheVariants.{Pos};
 ghost use Rattle.charge_model.specs.Rules.{IsChargeList};
 ghost use Rattle.charge_model.specs.Tree.{is_node, node_count};
 ghost use Rattle.sidb_units.specs.declared.TheConstants.{MAX_NODES};
-ghost use Rattle.tree_leaves.specs.Answer.{IsListed, IsLeavesAnswer};
+ghost use Rattle.tree_leaves.specs.Answer.{IsListed, IsListedUnder, IsLeavesAnswer};
 ghost use Rattle.tree_leaves.specs.Subtree.{IsPrefix, nodes_under, nodes_beyond};
 ghost use Rattle.tree_leaves.specs.Visits.{IsVisited, AreChildrenVisited, IsKept};
 
@@ -138,20 +138,64 @@ fn visit(
     Ok(true)
 }
 
-/// Visits the whole tree.
-fn visit_all(
+/// The track of a prefix.
+fn track_of(alloc: Global, problem: &Problem, prefix: &Charges) -> Result<Track, Memory>
+    requires { IsPrefix problem.now prefix.now }
+    ensures problem { IfOk result (λ track. track.problem ≡ problem.now) }
+    ensures prefix { IfOk result (λ track. track.prefix ≡ prefix.now) }
+{
+    let mut track = Track::new(alloc, problem)?;
+    for k in 0..prefix.len() {
+        track.push(problem, prefix.at(k));
+    }
+    Ok(track)
+}
+
+/// Visits a prefix.
+fn visit_prefix(
     alloc: Global,
     problem: &Problem,
     threshold: Option<i64>,
+    prefix: &Charges,
     found: &mut Found,
 ) -> Result<bool, Memory>
+    requires { IsPrefix problem.now prefix.now }
     ensures within { IfOk result (λ within. IsTrue within
-        ↔ (nodes_under problem.now threshold [] ≤ found.old.left)) }
+        ↔ (nodes_under problem.now threshold prefix.now ≤ found.old.left)) }
     ensures visited { IfOk result (λ within. IsTrue within
-        → IsVisited problem.now threshold [] found.old found.new) }
+        → IsVisited problem.now threshold prefix.now found.old found.new) }
 {
-    let mut track = Track::new(alloc, problem)?;
+    let mut track = track_of(alloc, problem, prefix)?;
     visit(alloc, problem, threshold, &mut track, found)
+}
+
+/// In order, the possibly valid lists that begin with a prefix and lie in the search tree under a
+/// threshold, in 10^-12 V, or under none, as far as the shorter prefixes are nodes; with the number
+/// of its nodes that begin so. None where that is more than `limit`, which is as many as are
+/// entered.
+pub fn leaves_under(
+    alloc: Global,
+    problem: &Problem,
+    threshold: Option<i64>,
+    prefix: &Charges,
+    limit: u64,
+) -> Result<Option<LeafList>, Memory>
+    requires { IsPrefix problem.now prefix.now }
+    ensures { IfOk result (λ o. MatchOption o
+        (limit < nodes_under problem.now threshold prefix.now)
+        (IsListedUnder problem.now threshold prefix.now limit)) }
+{
+    let mut found = Found {
+        lists: Vec::new(alloc),
+        left: limit,
+    };
+    if !visit_prefix(alloc, problem, threshold, prefix, &mut found)? {
+        return Ok(None);
+    }
+    Ok(Some(LeafList {
+        lists: found.lists,
+        nodes: limit - found.left,
+    }))
 }
 
 /// The leaves of the tree, or None where it has more nodes than the limit.
@@ -165,17 +209,7 @@ fn leaves_within(
         (IsListed problem.now bound limit)) }
 {
     nodes_are_tested();
-    let mut found = Found {
-        lists: Vec::new(alloc),
-        left: limit,
-    };
-    if !visit_all(alloc, problem, bound, &mut found)? {
-        return Ok(None);
-    }
-    Ok(Some(LeafList {
-        lists: found.lists,
-        nodes: limit - found.left,
-    }))
+    leaves_under(alloc, problem, bound, &Charges::empty(), limit)
 }
 
 /// In order, the possibly valid lists in the search tree under a threshold, in 10^-12 V, or under

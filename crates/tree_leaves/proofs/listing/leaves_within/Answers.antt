@@ -1,31 +1,31 @@
-use Rattle.std.proofs.Common.{◌<◌, ◌≤◌, sym, ap, subst, ◌∙◌, arith, ◌++◌, ◌⊎◌, inl, inr}
-use Rattle.std.proofs.lemmas.Bool.{cases_lt, false≢true}
+use Rattle.std.proofs.Common.{◌≡◌, ℕ, ◌<◌, sym, subst, ◌∙◌, arith, [], Option, Some, None, ℤ, List}
+use Rattle.std.specs.Prelude.{IfOk, MatchOption, Result, Ok, Err}
+use Rattle.charge_model.specs.declared.charge.Charge.{Charge}
+use Rattle.charge_model.specs.Problem.{Problem}
 use Rattle.charge_model.specs.Tree.{node_count}
-use Rattle.tree_leaves.specs.Leaves.{AreLeaves}
+use Rattle.tree_leaves.specs.Leaves.{Leaves}
+use Rattle.tree_leaves.specs.Answer.{IsListed, IsListedUnder}
+use Rattle.tree_leaves.specs.Subtree.{IsPrefix, nodes_under}
 use Rattle.tree_leaves.proofs.Counts.{count_root}
-use Rattle.tree_leaves.proofs.Branches.{leaves_of_root}
+use Rattle.tree_leaves.proofs.Branches.{IsTested, leaves_of_root}
 use Rattle.tree_leaves.proofs.listing.leaves_within.Goals as goal
 
-pub returns-then-not-branch : goal.returns-then-not-branch
-returns-then-not-branch c =
-    let root = count_root c.args.problem.now c.args.bound in
-    by (cases_lt c.args.limit (node_count c.args.problem.now c.args.bound))
-    (λ few. false≢true (sym c.if-not-branch.true ∙ c.in_ok-visit_all.ensures.within.1 (omega (arith, root, few))))
+pub leaves_under-requires : goal.leaves_under-requires
+leaves_under-requires c = subst (IsPrefix c.args.problem.now) (sym c.empty.ensures) (record { short = omega arith; of_base = tt })
+
+of_root : {E : Type 0} (p : Problem) (o : Option ℤ) (limit : ℕ) (q : List Charge) (r : Result (Option Leaves) E) → IsTested p o → q ≡ []
+    → IfOk r (λ l. MatchOption l (limit < nodes_under p o q) (IsListedUnder p o q limit)) → IfOk r (λ l. MatchOption l (limit < node_count p o) (IsListed p o limit))
+of_root p o limit q r tested none h = by r (subst (λ z. IfOk r (λ l. MatchOption l (limit < nodes_under p o z) (IsListedUnder p o z limit))) none h)
   where
-    by : {m n : _} → (m < n) ⊎ (n ≤ m) → (n ≤ m → ⊥) → m < n
-    by (inl over) never = over
-    by (inr few) never = absurd (never few)
+    by : {E : Type 0} (s : Result (Option Leaves) E) → IfOk s (λ l. MatchOption l (limit < nodes_under p o []) (IsListedUnder p o [] limit)) → IfOk s (λ l. MatchOption l (limit < node_count p o) (IsListed p o limit))
+    by (Ok None) over = let root = count_root p o in omega (arith, root, over)
+    by (Ok (Some l)) is = let root = count_root p o in record {
+      leaves = leaves_of_root p o l.lists tested is.leaves;
+      nodes = is.nodes ∙ root;
+      within = let within = is.within in omega (arith, root, within);
+    }
+    by (Err e) h = h
 
 pub returns : goal.returns
-returns c =
-    let p = c.args.problem.now in
-    let o = c.args.bound in
-    let visited = c.in_ok-visit_all.ensures.visited c.if-not-branch.false in
-    let root = count_root p o in
-    let found = c.visit_all.new.found in
-    record {
-      leaves = subst (AreLeaves p o) (sym (visited.lists ∙ ap (λ l. l ++ visited.more) c.new.ensures.items))
-          (leaves_of_root p o visited.more (λ q short. c.nodes_are_tested.ensures p o q short) visited.leaves);
-      nodes = omega (arith, root, visited.entered);
-      within = omega (arith, root, visited.entered);
-    }
+returns c = of_root c.args.problem.now c.args.bound c.args.limit c.empty.result c.leaves_under.result
+    (λ q short. c.nodes_are_tested.ensures c.args.problem.now c.args.bound q short) c.empty.ensures c.leaves_under.ensures

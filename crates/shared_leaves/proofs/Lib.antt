@@ -1,0 +1,4 @@
+mod Refusals
+pub mod StandardFacts
+pub mod Parts
+pub mod Found
