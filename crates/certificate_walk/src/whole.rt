@@ -45,7 +45,7 @@ fn walk_tree<T: TokenSink>(alloc: Global, guide: &Guide, sink: &mut T) -> Result
 }
 
 /// The threshold of the tree: the least certain energy and the window on top, in 10^-12 V.
-fn threshold_of(problem: &Problem, window: Window, bound: Option<i64>) -> Option<i64>
+pub fn threshold_of(problem: &Problem, window: Window, bound: Option<i64>) -> Option<i64>
     requires { IsLeastCertain problem.now bound }
     ensures { result ≡ raised_bound window.width bound }
 {
