@@ -58,6 +58,13 @@ works = sum(cell.verdict == "works" for cell in domain.cells)
 print(f"works at {works} of {len(domain.cells)} points")
 domain.draw(path=FOLDER / "domain.svg")
 
+# %% And at every point between: rectangles, cut in four where their spans do not decide; the points of a domain on top.
+
+region = gate.region(sidb.Grid.parse("5.7:0.05:2,4.5:0.05:2"), refine=3)
+points = gate.domain(sidb.Grid.parse("5.705:0.01:10,4.505:0.01:10"))
+print(f"works at every point of {region.works / (region.works + region.fails + region.open):.0%} of a square")
+region.draw(path=FOLDER / "regions.svg", domain=points)
+
 # %% For which levels the pattern keeps its ground list, and what is left of it at 298 K.
 
 single.level_range("0.2", "0.4").draw(path=FOLDER / "levels.svg")

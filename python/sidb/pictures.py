@@ -67,7 +67,7 @@ VERDICT_STYLE: dict[str, tuple[str, str, str]] = {
     "missing": ("white", "++++", "no answer"),
 }
 _OPEN = ("undecided", "budget", "long", "missing")
-_POINT_STYLE = {"works": ("o", "white"), "fails": ("X", "#7a1f00"), "undecided": ("s", "#888888")}
+_POINT_STYLE = {"works": ("o", "white"), "fails": ("X", "#7a1f00"), "open": ("s", "#888888")}
 _SETTINGS = {"svg.fonttype": "none", "svg.hashsalt": "sidb", "hatch.linewidth": 0.6, "font.size": 8.0}
 _MOST_ROWS = 40
 _MOST_POINTS = 300
@@ -374,7 +374,7 @@ def _add(rectangles: list[Rectangle], new: Rectangle) -> None:
         rectangles.append(new)
 
 
-def _draw_verdicts(ax: Axes, found: Mapping[str, list[Rectangle]]) -> None:
+def _draw_verdicts(ax: Axes, found: Mapping[str, list[Rectangle]], more: Sequence[Line2D] = ()) -> None:
     for verdict, (fill, hatch, _) in VERDICT_STYLE.items():
         if verdict in found:
             patch = PathPatch(
@@ -384,7 +384,7 @@ def _draw_verdicts(ax: Axes, found: Mapping[str, list[Rectangle]]) -> None:
             ax.add_patch(patch)
     shown = [verdict for verdict in VERDICT_STYLE if verdict in found]
     ax.legend(
-        handles=[_verdict_handle(verdict) for verdict in shown], fontsize=7, loc="upper left", bbox_to_anchor=(1.0, 1.0),
+        handles=[*map(_verdict_handle, shown), *more], fontsize=7, loc="upper left", bbox_to_anchor=(1.0, 1.0),
         frameon=False, borderaxespad=0.3,
     )  # fmt: skip
     every = [rectangle for rectangles in found.values() for rectangle in rectangles]
@@ -426,12 +426,12 @@ def plot_regions(
     found: dict[str, list[Rectangle]] = {}
     for tile in answer.tiles:
         found.setdefault(tile.verdict, []).append(_rectangle_of(tile))
+    points = _by_verdict(domain.cells if domain is not None else ())
     with matplotlib.rc_context(_SETTINGS):
-        _draw_verdicts(ax, found)
+        _draw_verdicts(ax, found, [_point_handle(verdict) for verdict in points])
         outlines = _path_of(map(_rectangle_of, answer.tiles))
         ax.add_patch(PathPatch(outlines, fill=False, edgecolor="#888888", linewidth=0.2))
-        if domain is not None:
-            _draw_points(ax, domain.cells)
+        _draw_points(ax, points)
         _label_map(ax, f"{answer.gate.layout.name}: {answer.gate.function}, by proof over each tile")
     return _finished(ax, path)
 
@@ -440,14 +440,28 @@ def _rectangle_of(tile: Tile) -> Rectangle:
     return float(tile.eps[0]), float(tile.eps[1]), float(tile.lam[0]), float(tile.lam[1])
 
 
-def _draw_points(ax: Axes, cells: Iterable[Cell]) -> None:
-    by_verdict: dict[str, list[Cell]] = {}
+def _by_verdict(cells: Iterable[Cell]) -> dict[str, list[Cell]]:
+    """Points by how they are drawn: all that neither works nor fails alike."""
+    found: dict[str, list[Cell]] = {}
     for cell in cells:
-        by_verdict.setdefault(cell.verdict if cell.verdict in _POINT_STYLE else "undecided", []).append(cell)
-    for verdict, found in by_verdict.items():
-        marker, colour = _POINT_STYLE[verdict]
-        xs, ys = [float(cell.eps) for cell in found], [float(cell.lam) for cell in found]
-        ax.plot(xs, ys, marker, color=colour, markersize=3, markeredgecolor="black", markeredgewidth=0.4, zorder=4)
+        found.setdefault(cell.verdict if cell.verdict in _POINT_STYLE else "open", []).append(cell)
+    return {verdict: found[verdict] for verdict in _POINT_STYLE if verdict in found}
+
+
+def _draw_points(ax: Axes, points: Mapping[str, Sequence[Cell]]) -> None:
+    for verdict, cells in points.items():
+        xs, ys = [float(cell.eps) for cell in cells], [float(cell.lam) for cell in cells]
+        ax.plot(xs, ys, **_point_look(verdict), zorder=4)
+
+
+def _point_look(verdict: str) -> dict[str, Any]:
+    marker, colour = _POINT_STYLE[verdict]
+    look = {"markersize": 3, "markeredgecolor": "black", "markeredgewidth": 0.4}
+    return {"linestyle": "none", "marker": marker, "markerfacecolor": colour, **look}
+
+
+def _point_handle(verdict: str) -> Line2D:
+    return Line2D([], [], label=f"{verdict}, at a point", **_point_look(verdict))
 
 
 # Levels and shares

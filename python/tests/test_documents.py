@@ -44,7 +44,7 @@ def test_example_from_a_file_of_siqad(tmp_path: Path) -> None:
     assert time.perf_counter() - begun < 60
     assert "or_gate: 22 dots, 1 fixed charge" in done.stdout and "the gate works" in done.stdout
     assert "84 points, 0 without an answer" in done.stdout
-    for name in ("gate", "patterns", "ground", "domain", "levels", "shares"):
+    for name in ("gate", "patterns", "ground", "domain", "regions", "levels", "shares"):
         assert (tmp_path / f"{name}.svg").stat().st_size < 60_000
     # one entry at least at each of the 84 points, and the head
     assert len((tmp_path / "sweep.csv").read_text().splitlines()) >= 85
@@ -54,7 +54,7 @@ def test_pictures_of_the_documents_are_those_of_the_example() -> None:
     kept = sorted((TOP / "docs" / "pictures" / "python").iterdir())
     scripts = "".join((EXAMPLES / name).read_text() for name in ("from_siqad.py", "gate_page.py"))
     own = [path for path in kept if path.name in scripts]
-    assert {path.stem for path in own} == {"gate", "patterns", "ground", "domain", "levels", "shares"}
+    assert {path.stem for path in own} == {"gate", "patterns", "ground", "domain", "regions", "levels", "shares"}
     studies = [path.stem.removeprefix("or_gate_") for path in kept if path not in own]
     assert all(f'"{study}"' in scripts for study in studies)
     assert all(path.stat().st_size < 60_000 for path in kept)

@@ -121,6 +121,9 @@ def test_picture_of_regions(tmp_path: Path, or_gate: sidb.Gate) -> None:
     assert cells_of(figure, "works") == {(1, 2, 4, 5)} and cells_of(figure, "fails") == {(2, 3, 4, 5)}
     assert cells_of(figure, "undecided") == {(1, 1.5, 5, 6)}
     assert [list(line.get_xdata()) for line in figure.axes[0].lines] == [[1.5]]
+    shown = texts_of(tmp_path / "regions.svg")
+    assert all(text in shown for text in ("works", "fails", "undecided", "works, at a point"))
+    assert "fails, at a point" not in shown
 
 
 def test_names_show_as_text(tmp_path: Path) -> None:

@@ -1,4 +1,5 @@
-"""The task region: its text, read by a stand-in for a program that has it, and what a tile says."""
+"""The task region: its text, read by a stand-in for a program that has it, what a tile says, and that no point of a
+domain contradicts it."""
 
 from __future__ import annotations
 
@@ -9,6 +10,7 @@ from pathlib import Path
 import pytest
 import sidb
 from sidb import reading
+from sidb.answers import Cell, Tile
 
 TEXT = """sidb-region 1
 tile 5.0000 5.1250 4.0000 4.1250 works
@@ -52,3 +54,31 @@ def test_words_and_answer(tmp_path: Path, or_gate: sidb.Gate) -> None:
     }  # fmt: skip
     answer.draw(path=tmp_path / "regions.svg")
     assert (tmp_path / "regions.svg").exists()
+
+
+def holds(tile: Tile, cell: Cell) -> bool:
+    """Whether a point lies in a tile, its borders included."""
+    return tile.eps[0] <= cell.eps <= tile.eps[1] and tile.lam[0] <= cell.lam <= tile.lam[1]
+
+
+@pytest.mark.parametrize(
+    ("name", "rectangles", "refine", "points"),
+    [
+        ("inverter", "5.6:0.5:4,4.2:0.5:4", 3, "5.6:0.0625:33,4.2:0.0625:33"),
+        ("inverter", "5.6:0.5:4,4.2:0.5:4", 3, "5.6001:0.0713:28,4.2003:0.0697:28"),
+        ("or_gate", "5.7:0.05:2,4.5:0.05:2", 2, "5.7:0.0125:9,4.5:0.0125:9"),
+        ("or_gate", "5.7:0.05:2,4.5:0.05:2", 2, "5.7011:0.0119:9,4.5007:0.0121:9"),
+    ],
+)
+def test_no_point_contradicts_its_tiles(
+    request: pytest.FixtureRequest, name: str, rectangles: str, refine: int, points: str
+) -> None:
+    """The points are corners of the tiles, which lie in up to four, and then points that no border goes through."""
+    gate: sidb.Gate = request.getfixturevalue(name)
+    tiles = gate.region(sidb.Grid.parse(rectangles), refine).tiles
+    cells = gate.domain(sidb.Grid.parse(points)).cells
+    pairs = [(tile, cell) for cell in cells for tile in tiles if holds(tile, cell)]
+    assert {cell for _, cell in pairs} == set(cells)
+    assert {tile.verdict for tile, _ in pairs} >= {"works", "fails", "undecided"}
+    proved = [(tile, cell) for tile, cell in pairs if tile.proved]
+    assert [pair for pair in proved if (pair[0].verdict, pair[0].pattern) != (pair[1].verdict, pair[1].pattern)] == []

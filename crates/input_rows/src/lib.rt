@@ -1,6 +1,8 @@
-//! Tests of the crates that read and write, of layouts and of spans.
+//! Tests of the crates that read and write, of layouts, of spans and of regions.
 #![tactic(auto)]
 
+#[cfg(test)]
+mod of_parameter_regions;
 #[cfg(test)]
 mod of_screened_coulomb;
 #[cfg(test)]

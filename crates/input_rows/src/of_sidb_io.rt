@@ -1,3 +1,5 @@
+ghost use Rattle.std.specs.Prelude.{◌≡◌, IfOk};
+
 use sidb_io::{
     Event, Failed, Gate, MemSink, MemSource, NoGate, ReadAllFault, RealSink, RealSource, Sink,
     Source, SteadySink, SteadySource, read_all, write_all,
@@ -44,6 +46,41 @@ impl Write for UnflushedWriter {
 
     fn flush(&mut self) -> io::Result<()> {
         Err(io::Error::from(ErrorKind::Other))
+    }
+}
+
+/// What fails at its first call, with the kind of error that others try again, and would serve any
+/// later one: gives a byte, or takes the piece.
+#[derive(Drop)]
+struct FailsFirst {
+    calls: u64,
+}
+
+impl FailsFirst {
+    fn turn(&mut self, served: usize) -> io::Result<usize>
+        ensures { IfOk result (λ n. n ≡ served) }
+    {
+        self.calls = self.calls.saturating_add(1);
+        if self.calls == 1 {
+            return Err(io::Error::from(ErrorKind::Interrupted));
+        }
+        Ok(served)
+    }
+}
+
+impl Read for FailsFirst {
+    fn read(&mut self, buf: &mut [u8]) -> io::Result<usize> {
+        self.turn(buf.len().min(1))
+    }
+}
+
+impl Write for FailsFirst {
+    fn write(&mut self, piece: &[u8]) -> io::Result<usize> {
+        self.turn(piece.len())
+    }
+
+    fn flush(&mut self) -> io::Result<()> {
+        Ok(())
     }
 }
 
@@ -156,5 +193,33 @@ fn finds_a_failed_flush(rt: HostRuntime) -> Result<(), Fail> {
     };
     assert!(rt; write_all(&mut RealSink::new(&mut writer), b"abc".as_slice()).is_err());
     assert_eq!(rt; writer.bytes.as_slice(), b"abc".as_slice());
+    Ok(())
+}
+
+// The first read fails: it is made once, and the buffer stays; so is the first of a whole input.
+#[test]
+fn a_failed_first_read_is_the_only_one(rt: HostRuntime) -> Result<(), Fail> {
+    let mut reader = FailsFirst { calls: 0 };
+    let mut block = [7, 8];
+    let failed = RealSource::new(&mut reader).read(&mut block);
+    assert_eq!(rt; failed, Err(Failed));
+    assert_eq!(rt; (reader.calls, block), (1, [7, 8]));
+    let mut reader = FailsFirst { calls: 0 };
+    let all = read_all(rt.alloc(), &mut RealSource::new(&mut reader), 6);
+    assert!(rt; all.is_err_and(|fault| fault == ReadAllFault::ReadFault));
+    assert_eq!(rt; reader.calls, 1);
+    Ok(())
+}
+
+// The first write fails: it is made once, of one piece and of a whole output. The next is served.
+#[test]
+fn a_failed_first_write_is_the_only_one(rt: HostRuntime) -> Result<(), Fail> {
+    let mut writer = FailsFirst { calls: 0 };
+    let failed = RealSink::new(&mut writer).write(b"abc".as_slice());
+    assert_eq!(rt; (failed, writer.calls), (Err(Failed), 1));
+    assert_eq!(rt; RealSink::new(&mut writer).write(b"abc".as_slice()), Ok(3));
+    let mut writer = FailsFirst { calls: 0 };
+    let whole = write_all(&mut RealSink::new(&mut writer), b"abc".as_slice());
+    assert_eq!(rt; (whole, writer.calls), (Err(Failed), 1));
     Ok(())
 }
