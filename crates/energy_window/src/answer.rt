@@ -1,4 +1,4 @@
-ghost use Rattle.std.specs.Prelude.{◌≤◌, ℕ, ℤ};
+ghost use Rattle.std.specs.Prelude.{◌≡◌, ◌≤◌, ℕ, ℤ};
 ghost use Rattle.charge_model.specs.Problem.{Problem as Given};
 ghost use Rattle.charge_model.specs.GroundList.{lists_of};
 ghost use Rattle.sidb_units.specs.declared.TheConstants.{MAX_NODES, MAX_WORKERS};
@@ -33,8 +33,9 @@ pub enum WindowAnswer {
 
 /// What the answer of a search says of the window list.
 fn told(solved: SolveAnswer) -> WindowAnswer
-    ensures { (p : Given) (window : ℤ) (limit : ℕ)
+    ensures answer { (p : Given) (window : ℤ) (limit : ℕ)
         → IsWindowSolved p window limit solved → IsWindowAnswer p window limit result }
+    ensures memory { result ≡ WindowAnswer.Memory → solved ≡ SolveAnswer.Memory }
 {
     match solved {
         SolveAnswer::List(solution) => {

@@ -10,7 +10,7 @@ returns-clause-answer g c =
     let p = c.args.problem.now in
     let fits = c.ranges.window in
     let solved = simp to_z-of_z at c.solve_within.ensures.answer in
-    c.told.ensures p c.args.window c.args.limit solved
+    c.told.ensures.answer p c.args.window c.args.limit solved
 
 pub returns-clause-each_listed : goal.returns-clause-each_listed
 returns-clause-each_listed g c =
