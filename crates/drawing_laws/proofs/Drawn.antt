@@ -14,15 +14,14 @@ use Rattle.sidb_layout.specs.Lattice.{silicon, squared_distance}
 use Rattle.sidb_layout.specs.Layout.{Arrangement}
 use Rattle.sidb_layout.specs.Refusal.{IsTooClose, IsFirstOutOfRange, IsFirstPair, AreDistinct, IsMadeOf, IsRefusal}
 use Rattle.sqd_dots.specs.declared.drawing.Dot.{Dot}
-use Rattle.sqd_dots.specs.declared.fault.DrawingFault.{DrawingFault}
 use Rattle.sqd_dots.specs.Drawings.{IsDrawing, IsDrawingFault}
-use Rattle.sqd_layout.specs.declared.fault.SqdFault.{SqdFault}
-use Rattle.sqd_layout.specs.declared.fault.SqdFault.TheVariants.{OutOfRange, TooMany, Duplicate}
-use Rattle.sqd_layout.specs.DotsFaults.{sites_in, BeginsAt, IsDotsFault, IsSqdText, named, IsSqdFault}
+use Rattle.sqd_layout.specs.SqdFault.{SqdFault}
+use Rattle.sqd_layout.specs.SqdFault.TheVariants.{OutOfRange, TooMany, Duplicate}
+use Rattle.sqd_layout.specs.DotsFaults.{sites_in, BeginsAt, IsDotsFault, IsSqdText, IsSqdFault}
 
 -- the laws below
 abbrev pub SomeReading : Type 0
-SomeReading = (text : List ℕ) → ((dots : List Dot) × (skipped : ℕ) × IsDrawing text dots skipped) ⊎ ((f : DrawingFault) × IsDrawingFault text f)
+SomeReading = (text : List ℕ) → ((dots : List Dot) × (skipped : ℕ) × IsDrawing text dots skipped) ⊎ ((f : SqdFault) × IsDrawingFault text f)
 
 abbrev pub IsMadeOrRefused : Lattice → List Site → List Fix → Type 0
 IsMadeOrRefused v sites fixes =
@@ -102,6 +101,6 @@ settled roomy text dots skipped drawing (inr (r, refused)) =
 pub each_text : SomeReading → MadeOrRefused → IsRoomy → (text : List ℕ) → IsDrawnOrFaulty text
 each_text reading made roomy text = by (reading text)
   where
-    by : ((dots : List Dot) × (skipped : ℕ) × IsDrawing text dots skipped) ⊎ ((f : DrawingFault) × IsDrawingFault text f) → IsDrawnOrFaulty text
+    by : ((dots : List Dot) × (skipped : ℕ) × IsDrawing text dots skipped) ⊎ ((f : SqdFault) × IsDrawingFault text f) → IsDrawnOrFaulty text
     by (inl (dots, skipped, drawing)) = settled roomy text dots skipped drawing (made silicon (sites_in dots) [])
-    by (inr (f, found)) = inr (named f, inl (record { reason = f; found = found; name = refl }))
+    by (inr (f, found)) = inr (f, inl found)

@@ -1,6 +1,6 @@
 ghost use Rattle.std.specs.Prelude.{◌⊎◌, ℕ, List};
 ghost use Rattle.sidb_layout.specs.Layout.{Arrangement};
-ghost use Rattle.sqd_layout.specs.declared.fault.SqdFault.{SqdFault};
+ghost use Rattle.sqd_layout.specs.SqdFault.{SqdFault};
 ghost use Rattle.sqd_layout.specs.DotsFaults.{IsSqdText, IsSqdFault};
 
 /// Each text draws a layout and skips some number of items, or it has a first fault.

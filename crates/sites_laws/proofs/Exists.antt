@@ -9,8 +9,8 @@ use Rattle.sidb_layout.specs.Lattice.{squared_distance}
 use Rattle.sidb_layout.specs.Layout.{Arrangement}
 use Rattle.sidb_layout.specs.Refusal.{IsFirstOutside, IsTooClose}
 use Rattle.sqd_layout.specs.declared.sites.line.SitesLine.{SitesLine}
-use Rattle.sqd_layout.specs.declared.fault.SqdFault.{SqdFault}
-use Rattle.sqd_layout.specs.declared.fault.SqdFault.TheVariants.{BadLine, OutOfRange, TooMany, TooManyFixes, Duplicate, TooClose}
+use Rattle.sqd_layout.specs.SqdFault.{SqdFault}
+use Rattle.sqd_layout.specs.SqdFault.TheVariants.{BadLine, OutOfRange, TooMany, TooManyFixes, Duplicate, TooClose}
 use Rattle.sqd_layout.specs.SitesLines.{lines_in, lines_of, sites_of, fixes_of}
 use Rattle.sqd_layout.specs.SitesFaults.{AreFine, IsFirstBad, IsLineInRange, AreLinesInRange, AreFewLines, HasNoClash, IsFirstClash, IsLatticeOf, IsClear, IsLinesFault, IsLayoutOf, IsSitesText, IsSitesFault}
 use Rattle.sites_laws.proofs.Decided.{Decided}

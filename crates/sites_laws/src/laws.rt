@@ -1,7 +1,7 @@
 //! What the definitions of sites texts promise: each text has a reading.
 ghost use Rattle.std.specs.Prelude.{◌⊎◌, ℕ, List};
 ghost use Rattle.sidb_layout.specs.Layout.{Arrangement};
-ghost use Rattle.sqd_layout.specs.declared.fault.SqdFault.{SqdFault as FaultData};
+ghost use Rattle.sqd_layout.specs.SqdFault.{SqdFault as FaultData};
 ghost use Rattle.sqd_layout.specs.SitesFaults.{IsSitesText, IsSitesFault};
 
 /// Each text is the sites text of a layout, or has a first fault.

@@ -3,10 +3,7 @@ use Rattle.std.proofs.Common.{◌≡◌, ◌∙◌, refl, sym, ap, subst, ℕ, �
 use Rattle.std.specs.Prelude.{slice_get}
 use Rattle.std.proofs.lemmas.List.{reverse-append}
 use Rattle.sqd_marks.specs.Marks.{Mark, start, empty, close, comment, declaration, doctype, cdata}
-use Rattle.sqd_nesting.specs.declared.fault.MarkFault.{MarkFault}
-use Rattle.sqd_nesting.specs.declared.fault.MarkFault.TheVariants as marks
 use Rattle.sqd_nesting.specs.Texts.{Item, item_bytes, Nest, Opened, IsOutside, Turns, Nested, IsWhole, mark_len, at_first}
-use Rattle.sqd_nesting.specs.Faults.{IsFirstFault, IsRefused}
 use Rattle.sqd_dots.specs.declared.drawing.Dot.{Dot}
 use Rattle.sqd_dots.specs.declared.tally.Tally.{Tally}
 use Rattle.sqd_elements.specs.Elements.{Element, elements_of, without_nearest}
@@ -45,15 +42,6 @@ whole_closes text items h = nested_closes (mark_len text) at_first items h.nest 
 -- the elements of a text that was read
 pub read_elements : (text : List ℕ) (items : List Item) → IsWhole text items → HasElements text (elements_of text items)
 read_elements text items h = record { items = items; whole = h; are = refl }
-
--- a refusal but for want of memory
-pub first_fault : (text : List ℕ) (fault : MarkFault) → IsRefused text fault → (fault ≡ marks.Memory → ⊥) → IsFirstFault text fault
-first_fault text marks.Memory h other = absurd (other refl)
-first_fault text (marks.BadMark k) h other = h
-first_fault text (marks.NotClosed k) h other = h
-first_fault text (marks.WrongClose k) h other = h
-first_fault text (marks.Doctype k) h other = h
-first_fault text (marks.Cdata k) h other = h
 
 none_bad : (places : List ℕ) → slice_get places 0 ≡ None → places ≡ []
 none_bad [] h = refl

@@ -3,8 +3,8 @@ use Rattle.std.specs.Prelude.{◌≡◌, ℕ, true, false, List, [], ◌∷◌}
 use Rattle.sqd_nesting.specs.Texts.{Item, IsWhole}
 use Rattle.sqd_nesting.specs.Faults.{IsFirstFault}
 use Rattle.sqd_dots.specs.declared.drawing.Dot.{Dot}
-use Rattle.sqd_dots.specs.declared.fault.DrawingFault.{DrawingFault}
-use Rattle.sqd_dots.specs.declared.fault.DrawingFault.TheVariants.{Marks, NotSiqad, BadSite, Memory}
+use Rattle.sqd_scan.specs.declared.fault.SqdFault.{SqdFault}
+use Rattle.sqd_scan.specs.declared.fault.SqdFault.TheVariants.{NotSiqad, BadSite}
 use Rattle.sqd_elements.specs.Elements.{Element, elements_of}
 use Rattle.sqd_dots.specs.Dots.{is_siqad, bad_places, dots_of, skipped_of}
 
@@ -37,9 +37,8 @@ pub record IsBadSite (text : List ℕ) (at : ℕ) : Type 0 where
   pub later : List ℕ
   pub bad : bad_places elements ≡ at ∷ later
 
--- the first fault of the text
-abbrev pub IsDrawingFault : List ℕ → DrawingFault → Type 0
-IsDrawingFault text (Marks fault) = IsFirstFault text fault
+-- the first fault of the text: that of its marks, or else of its root, or else of its dots
+abbrev pub IsDrawingFault : List ℕ → SqdFault → Type 0
 IsDrawingFault text NotSiqad = IsNotSiqad text
 IsDrawingFault text (BadSite at) = IsBadSite text at
-IsDrawingFault text Memory = ⊥
+IsDrawingFault text fault = IsFirstFault text fault

@@ -1,7 +1,7 @@
 //! What drawings promise: each text draws one thing, or has one first fault, and never both.
 ghost use Rattle.std.specs.Prelude.{◌≡◌, ◌⊎◌, ℕ, List};
 ghost use Rattle.sqd_dots.specs.declared.drawing.Dot.{Dot as DotData};
-ghost use Rattle.sqd_dots.specs.declared.fault.DrawingFault.{DrawingFault as FaultData};
+ghost use Rattle.sqd_scan.specs.declared.fault.SqdFault.{SqdFault as FaultData};
 ghost use Rattle.sqd_dots.specs.Drawings.{IsDrawing, IsDrawingFault};
 
 /// A text draws one list of dots at most, and skips one number of items.

@@ -2,7 +2,6 @@
 #![tactic(auto)]
 
 mod drawing;
-mod fault;
 pub mod laws;
 mod levels;
 mod read;
@@ -10,5 +9,5 @@ mod reader;
 mod tally;
 
 pub use drawing::{Dot, Drawing};
-pub use fault::DrawingFault;
 pub use read::read_drawing;
+pub use sqd_nesting::SqdFault;

@@ -1,41 +1,28 @@
 // The drawing of a text.
 ghost use Rattle.std.specs.Prelude.{◌≡◌, ◌⊎◌, ℕ, List, IfOk, IfErr};
-ghost use Rattle.sqd_nesting.specs.Views.{IsRead};
-ghost use Rattle.sqd_dots.specs.declared.fault.DrawingFault.TheVariants.{Memory as OutOfMemory};
+ghost use Rattle.sqd_scan.specs.declared.fault.SqdFault.TheVariants.{Memory as OutOfMemory};
 ghost use Rattle.sqd_elements.specs.Elements.{Element};
 ghost use Rattle.sqd_dots.specs.Drawings.{HasElements, IsDrawing, IsDrawingFault};
 ghost use Rattle.sqd_dots.specs.States.{IsTally};
 
 use crate::reader::tally_of;
 use crate::tally::Tally;
-use crate::{Drawing, DrawingFault};
-use sqd_nesting::{Found, MarkFault, read_marks};
+use crate::{Drawing, SqdFault};
+use sqd_nesting::read_marks;
 use std::alloc::Global;
 
-/// The marks of the text.
-fn marks_of(alloc: Global, text: &[u8]) -> Result<Vec<Found>, DrawingFault>
-    ensures read { IfOk result (λ marks. IsRead text.now marks.items) }
-    ensures fault { IfErr result (λ fault. (fault ≡ OutOfMemory) ⊎ IsDrawingFault text.now fault) }
-{
-    match read_marks(alloc, text) {
-        Ok(marks) => Ok(marks),
-        Err(MarkFault::Memory) => Err(DrawingFault::Memory),
-        Err(fault) => Err(DrawingFault::Marks(fault)),
-    }
-}
-
 /// What a tally of a whole text says.
-fn drawing_of(tally: Tally) -> Result<Drawing, DrawingFault>
+fn drawing_of(tally: Tally) -> Result<Drawing, SqdFault>
     ensures drawing { (text : List ℕ) (es : List Element) → HasElements text es → IsTally tally es
         → IfOk result (λ d. IsDrawing text d.dots.items d.skipped) }
     ensures fault { (text : List ℕ) (es : List Element) → HasElements text es → IsTally tally es
         → IfErr result (IsDrawingFault text) }
 {
     if !tally.siqad {
-        return Err(DrawingFault::NotSiqad);
+        return Err(SqdFault::NotSiqad);
     }
     if let Some(at) = tally.bad {
-        return Err(DrawingFault::BadSite(at));
+        return Err(SqdFault::BadSite(at));
     }
     let mut dots = tally.dots;
     dots.reverse();
@@ -49,14 +36,11 @@ fn drawing_of(tally: Tally) -> Result<Drawing, DrawingFault>
 ///
 /// **Errors**: the first fault of its marks, or else `NotSiqad`, or else `BadSite` of the first dot
 /// without a site; or `Memory`.
-pub fn read_drawing(alloc: Global, text: &[u8]) -> Result<Drawing, DrawingFault>
+pub fn read_drawing(alloc: Global, text: &[u8]) -> Result<Drawing, SqdFault>
     ensures drawing { IfOk result (λ d. IsDrawing text.now d.dots.items d.skipped) }
     ensures fault { IfErr result (λ fault. (fault ≡ OutOfMemory) ⊎ IsDrawingFault text.now fault) }
 {
-    let marks = match marks_of(alloc, text) {
-        Ok(marks) => marks,
-        Err(fault) => return Err(fault),
-    };
+    let marks = read_marks(alloc, text)?;
     let tally = tally_of(alloc, &marks)?;
     drawing_of(tally)
 }

@@ -10,21 +10,20 @@ use Rattle.sidb_layout.specs.Lattice.{silicon}
 use Rattle.sidb_layout.specs.Layout.{Arrangement}
 use Rattle.sidb_layout.specs.Refusal.{IsMadeOf, IsRefusal}
 use Rattle.sqd_dots.specs.declared.drawing.Dot.{Dot}
-use Rattle.sqd_dots.specs.declared.fault.DrawingFault.{DrawingFault}
 use Rattle.sqd_dots.specs.Drawings.{IsDrawing, IsDrawingFault}
-use Rattle.sqd_layout.specs.declared.fault.SqdFault.{SqdFault}
-use Rattle.sqd_layout.specs.declared.fault.SqdFault.TheVariants.{OutOfRange, TooMany, Duplicate}
-use Rattle.sqd_layout.specs.DotsFaults.{sites_in, BeginsAt, IsDotsFault, IsSqdText, named, IsSqdFault}
+use Rattle.sqd_scan.specs.declared.fault.SqdFault.{SqdFault}
+use Rattle.sqd_scan.specs.declared.fault.SqdFault.TheVariants.{OutOfRange, TooMany, Duplicate}
+use Rattle.sqd_layout.specs.DotsFaults.{sites_in, BeginsAt, IsDotsFault, IsSqdText, IsSqdFault}
 
 -- the laws below
 abbrev pub OneDrawing : Type 0
 OneDrawing = (text : List ℕ) (a b : List Dot) (j k : ℕ) → IsDrawing text a j → IsDrawing text b k → (a ≡ b) × (j ≡ k)
 
 abbrev pub OneFault : Type 0
-OneFault = (text : List ℕ) (f g : DrawingFault) → IsDrawingFault text f → IsDrawingFault text g → f ≡ g
+OneFault = (text : List ℕ) (f g : SqdFault) → IsDrawingFault text f → IsDrawingFault text g → f ≡ g
 
 abbrev pub NoFault : Type 0
-NoFault = (text : List ℕ) (dots : List Dot) (skipped : ℕ) (f : DrawingFault) → IsDrawing text dots skipped → IsDrawingFault text f → ⊥
+NoFault = (text : List ℕ) (dots : List Dot) (skipped : ℕ) (f : SqdFault) → IsDrawing text dots skipped → IsDrawingFault text f → ⊥
 
 abbrev pub OneLayout : Type 0
 OneLayout = (v : Lattice) (sites : List Site) (fixes : List Fix) (p q : Arrangement) → IsMadeOf v sites fixes p → IsMadeOf v sites fixes q → p ≡ q
@@ -79,9 +78,9 @@ one_dots_fault one dots (Duplicate a c) g h k = absurd k
 one_dots_fault one dots f g h k = absurd h
 
 pub one_sqd_fault : OneDrawing → OneFault → NoFault → OneRefusal → (text : List ℕ) (f g : SqdFault) → IsSqdFault text f → IsSqdFault text g → f ≡ g
-one_sqd_fault drawing fault none refusal text f g (inl h) (inl k) = h.name ∙ ap named (fault text h.reason k.reason h.found k.found) ∙ sym k.name
-one_sqd_fault drawing fault none refusal text f g (inl h) (inr k) = absurd (none text k.dots k.skipped h.reason k.drawing h.found)
-one_sqd_fault drawing fault none refusal text f g (inr h) (inl k) = absurd (none text h.dots h.skipped k.reason h.drawing k.found)
+one_sqd_fault drawing fault none refusal text f g (inl h) (inl k) = fault text f g h k
+one_sqd_fault drawing fault none refusal text f g (inl h) (inr k) = absurd (none text k.dots k.skipped f k.drawing h)
+one_sqd_fault drawing fault none refusal text f g (inr h) (inl k) = absurd (none text h.dots h.skipped g h.drawing k)
 one_sqd_fault drawing fault none refusal text f g (inr h) (inr k) =
     let same = drawing text h.dots k.dots h.skipped k.skipped h.drawing k.drawing in
     one_dots_fault refusal k.dots f g (subst (λ dots. IsDotsFault dots f) same.0 h.found) k.found
@@ -95,7 +94,7 @@ no_dots_fault none dots p f made g = absurd g
 
 pub no_sqd_fault : OneDrawing → NoFault → NoRefusal → (text : List ℕ) (p : Arrangement) (skipped : ℕ) (f : SqdFault) → IsSqdText text p skipped
     → IsSqdFault text f → ⊥
-no_sqd_fault drawing none unrefused text p skipped f h (inl k) = none text h.dots skipped k.reason h.drawing k.found
+no_sqd_fault drawing none unrefused text p skipped f h (inl k) = none text h.dots skipped f h.drawing k
 no_sqd_fault drawing none unrefused text p skipped f h (inr k) =
     let same = drawing text h.dots k.dots skipped k.skipped h.drawing k.drawing in
     no_dots_fault unrefused k.dots p f (subst (λ dots. IsMadeOf silicon (sites_in dots) [] p) same.0 h.made) k.found

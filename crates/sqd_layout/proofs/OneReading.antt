@@ -12,8 +12,8 @@ use Rattle.sidb_layout.specs.Layout.{Arrangement}
 use Rattle.sidb_layout.specs.Refusal.{IsFirstOutside, IsTooClose}
 use Rattle.sqd_layout.specs.declared.sites.line.Vectors.{Vectors}
 use Rattle.sqd_layout.specs.declared.sites.line.SitesLine.{SitesLine}
-use Rattle.sqd_layout.specs.declared.fault.SqdFault.{SqdFault}
-use Rattle.sqd_layout.specs.declared.fault.SqdFault.TheVariants.{BadLine, OutOfRange, TooMany, TooManyFixes, Duplicate, TooClose}
+use Rattle.sqd_scan.specs.declared.fault.SqdFault.{SqdFault}
+use Rattle.sqd_scan.specs.declared.fault.SqdFault.TheVariants.{BadLine, OutOfRange, TooMany, TooManyFixes, Duplicate, TooClose}
 use Rattle.sqd_layout.specs.SitesLines.{lines_in, lines_of, vectors_of}
 use Rattle.sqd_layout.specs.SitesFaults.{AreFine, IsFirstBad, IsLineInRange, AreLinesInRange, HasTheseVectors, IsLatticeOf, HasNoClash, IsFirstClash, AtLine, AtLines, IsLinesFault, IsLayoutOf, IsSitesText, IsSitesFault}
 use Rattle.sqd_layout.proofs.FineLines.{fine_front}

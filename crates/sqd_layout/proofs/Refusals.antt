@@ -11,7 +11,7 @@ use Rattle.sidb_layout.specs.Layout.{Arrangement, arrangement_of}
 use Rattle.sqd_layout.specs.declared.sites.line.Vectors.{Vectors}
 use Rattle.sqd_layout.specs.declared.sites.line.SitesLine.{SitesLine}
 use Rattle.sqd_layout.specs.declared.sites.line.SitesLine.TheVariants.{Empty, Place, Charge, Lattice}
-use Rattle.sqd_layout.specs.declared.fault.SqdFault.TheVariants.{BadMark, Memory, BadLine, TooClose}
+use Rattle.sqd_scan.specs.declared.fault.SqdFault.TheVariants.{BadMark, Memory, BadLine, TooClose}
 use Rattle.sqd_dots.specs.declared.drawing.Dot.{Dot}
 use Rattle.sqd_layout.specs.DotsFaults.{BeginsAt, IsDotsFault, IsSqdText}
 use Rattle.sqd_layout.specs.SitesLines.{line_in}

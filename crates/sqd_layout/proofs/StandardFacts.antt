@@ -13,11 +13,10 @@ use Rattle.sqd_nesting.specs.Texts.{Item, at_first, IsWhole}
 use Rattle.sqd_elements.specs.Elements.{element_at}
 use Rattle.sqd_dots.specs.Drawings.{IsDrawing}
 use Rattle.sqd_dots.specs.declared.drawing.Dot.{Dot}
-use Rattle.sqd_dots.specs.declared.fault.DrawingFault.TheVariants as drawings
 use Rattle.sqd_layout.specs.DotsFaults.{IsDotsFault, IsSqdText, IsSqdFault}
 use Rattle.sqd_layout.specs.declared.sites.line.SitesLine.{SitesLine}
 use Rattle.sqd_layout.specs.declared.sites.line.SitesLine.TheVariants.{Empty, Place, Charge}
-use Rattle.sqd_layout.specs.declared.fault.SqdFault.TheVariants.{BadLine, NotSiqad, Duplicate}
+use Rattle.sqd_scan.specs.declared.fault.SqdFault.TheVariants.{BadLine, NotSiqad, Duplicate}
 use Rattle.sqd_layout.specs.SitesLines.{line_in, lines_of}
 use Rattle.sqd_layout.specs.SitesFaults.{AreFine, IsLineInRange, IsSitesText, IsSitesFault}
 use Rattle.sqd_layout.proofs.FineLines.{bad_none}
@@ -191,8 +190,4 @@ empty_whole : IsWhole [] []
 empty_whole = record { nest = at_first; rest = []; begins = record { is = refl; valid = tt; nested = refl }; closed = refl; blank = tt }
 
 no_root : IsSqdFault [] NotSiqad
-no_root = inl (record {
-  reason = drawings.NotSiqad;
-  found = record { elements = []; read = record { items = []; whole = empty_whole; are = refl }; siqad = refl };
-  name = refl;
-})
+no_root = inl (record { elements = []; read = record { items = []; whole = empty_whole; are = refl }; siqad = refl })

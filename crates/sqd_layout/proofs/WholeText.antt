@@ -8,8 +8,8 @@ use Rattle.sidb_layout.specs.Layout.{Arrangement}
 use Rattle.sqd_layout.specs.declared.sites.line.Vectors.{Vectors}
 use Rattle.sqd_layout.specs.declared.sites.line.SitesLine.{SitesLine}
 use Rattle.sqd_layout.specs.declared.sites.line.SitesLine.TheVariants.{Empty, Place, Charge, Lattice}
-use Rattle.sqd_layout.specs.declared.fault.SqdFault.{SqdFault}
-use Rattle.sqd_layout.specs.declared.fault.SqdFault.TheVariants.{BadLine, Memory}
+use Rattle.sqd_scan.specs.declared.fault.SqdFault.{SqdFault}
+use Rattle.sqd_scan.specs.declared.fault.SqdFault.TheVariants.{BadLine, Memory}
 use Rattle.sqd_layout.specs.SitesLines.{line_in, lines_in, lines_of, vectors_of}
 use Rattle.sqd_layout.specs.SitesFaults.{AreFine, AreInReach, AreLinesInRange, IsLineInRange, IsLinesFault, IsLayoutOf, IsSitesText, IsSitesFault}
 use Rattle.sqd_layout.proofs.FineLines.{first_bad, lines_back}

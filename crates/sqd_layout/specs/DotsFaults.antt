@@ -5,13 +5,10 @@ use Rattle.sidb_layout.specs.declared.fault.LayoutFault.TheVariants as refusals
 use Rattle.sidb_layout.specs.Lattice.{silicon}
 use Rattle.sidb_layout.specs.Layout.{Arrangement}
 use Rattle.sidb_layout.specs.Refusal.{IsMadeOf, IsRefusal}
-use Rattle.sqd_nesting.specs.declared.fault.MarkFault.TheVariants as marks
 use Rattle.sqd_dots.specs.declared.drawing.Dot.{Dot}
-use Rattle.sqd_dots.specs.declared.fault.DrawingFault.{DrawingFault}
-use Rattle.sqd_dots.specs.declared.fault.DrawingFault.TheVariants as drawings
 use Rattle.sqd_dots.specs.Drawings.{IsDrawing, IsDrawingFault}
-use Rattle.sqd_layout.specs.declared.fault.SqdFault.{SqdFault}
-use Rattle.sqd_layout.specs.declared.fault.SqdFault.TheVariants.{BadMark, NotClosed, WrongClose, Doctype, Cdata, NotSiqad, BadSite, OutOfRange, TooMany, Duplicate, Memory}
+use Rattle.sqd_scan.specs.declared.fault.SqdFault.{SqdFault}
+use Rattle.sqd_scan.specs.declared.fault.SqdFault.TheVariants.{OutOfRange, TooMany, Duplicate}
 
 -- the sites of dots
 abbrev pub sites_in : List Dot → List Site
@@ -44,24 +41,6 @@ pub record IsSqdText (text : List ℕ) (p : Arrangement) (skipped : ℕ) : Type 
   pub drawing : IsDrawing text dots skipped
   pub made : IsMadeOf silicon (sites_in dots) [] p
 
--- the name that a fault of a drawing has among the faults of layout texts
-abbrev pub named : DrawingFault → SqdFault
-named (drawings.Marks (marks.BadMark at)) = BadMark at
-named (drawings.Marks (marks.NotClosed at)) = NotClosed at
-named (drawings.Marks (marks.WrongClose at)) = WrongClose at
-named (drawings.Marks (marks.Doctype at)) = Doctype at
-named (drawings.Marks (marks.Cdata at)) = Cdata at
-named (drawings.Marks marks.Memory) = Memory
-named drawings.NotSiqad = NotSiqad
-named (drawings.BadSite at) = BadSite at
-named drawings.Memory = Memory
-
--- the text draws nothing, for this reason
-pub record HasDrawingFault (text : List ℕ) (fault : SqdFault) : Type 0 where
-  pub reason : DrawingFault
-  pub found : IsDrawingFault text reason
-  pub name : fault ≡ named reason
-
 -- the text draws dots that have this fault
 pub record HasDotsFault (text : List ℕ) (fault : SqdFault) : Type 0 where
   pub dots : List Dot
@@ -69,6 +48,6 @@ pub record HasDotsFault (text : List ℕ) (fault : SqdFault) : Type 0 where
   pub drawing : IsDrawing text dots skipped
   pub found : IsDotsFault dots fault
 
--- the first fault of the text
+-- the first fault of the text: that of its drawing, or else of the dots that it draws
 abbrev pub IsSqdFault : List ℕ → SqdFault → Type 0
-IsSqdFault text fault = HasDrawingFault text fault ⊎ HasDotsFault text fault
+IsSqdFault text fault = IsDrawingFault text fault ⊎ HasDotsFault text fault

@@ -3,3 +3,4 @@ pub mod SitesLines
 pub mod SitesFaults
 pub mod SitesClash
 pub mod DotsFaults
+pub use Rattle.sqd_scan.specs.declared.fault.SqdFault

@@ -10,8 +10,8 @@ use Rattle.sidb_layout.specs.Refusal.{IsFirstOutside, IsTooClose, IsMadeOf}
 use Rattle.sqd_layout.specs.declared.sites.line.Vectors.{Vectors}
 use Rattle.sqd_layout.specs.declared.sites.line.SitesLine.{SitesLine}
 use Rattle.sqd_layout.specs.declared.sites.line.SitesLine.TheVariants.{Empty, Place, Charge, Lattice}
-use Rattle.sqd_layout.specs.declared.fault.SqdFault.{SqdFault}
-use Rattle.sqd_layout.specs.declared.fault.SqdFault.TheVariants.{BadLine, OutOfRange, TooMany, TooManyFixes, Duplicate, TooClose}
+use Rattle.sqd_scan.specs.declared.fault.SqdFault.{SqdFault}
+use Rattle.sqd_scan.specs.declared.fault.SqdFault.TheVariants.{BadLine, OutOfRange, TooMany, TooManyFixes, Duplicate, TooClose}
 use Rattle.sqd_layout.specs.SitesLines.{lines_in, lines_of, is_lattice, place_on, sites_of, fixes_of, vectors_of}
 
 -- each is a line, and at most one of them is a line `lattice`

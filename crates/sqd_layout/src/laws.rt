@@ -3,7 +3,7 @@ ghost use Rattle.std.specs.Prelude.{◌≡◌, ℕ, List};
 ghost use Rattle.sidb_layout.specs.declared.lattice.Lattice.{Lattice};
 ghost use Rattle.sidb_layout.specs.Layout.{Arrangement};
 ghost use Rattle.sidb_layout.specs.Refusal.{IsMadeOf};
-ghost use Rattle.sqd_layout.specs.declared.fault.SqdFault.{SqdFault as FaultData};
+ghost use Rattle.sqd_scan.specs.declared.fault.SqdFault.{SqdFault as FaultData};
 ghost use Rattle.sqd_layout.specs.declared.sites.line.SitesLine.{SitesLine};
 ghost use Rattle.sqd_layout.specs.SitesLines.{sites_of, fixes_of};
 ghost use Rattle.sqd_layout.specs.SitesFaults.{IsClear, IsSitesText, IsSitesFault};

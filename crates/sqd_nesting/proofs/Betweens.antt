@@ -3,13 +3,13 @@ use Rattle.std.proofs.Common.{◌≡◌, ◌≢◌, ◌∙◌, sym, ap, subst, �
 use Rattle.std.proofs.lemmas.Bool.{eqb-true}
 use Rattle.std.proofs.lemmas.List.{take-append-drop, length-take-le}
 use Rattle.sqd_marks.specs.Bytes.{is_blank, Each}
-use Rattle.sqd_scan.specs.Fronts.{IsOf}
+use Rattle.sqd_scan.specs.Fronts.{IsOf, IsFaultOf}
 use Rattle.sqd_scan.specs.declared.mark_scan.Whole.{Whole}
 use Rattle.sqd_nesting.specs.Texts.{Nest, IsOutside, IsQuiet, is_text}
 use Rattle.sqd_nesting.specs.Faults.{IsStray, BeginsMark, IsFaultAt, IsFaultIn}
 use Rattle.sqd_nesting.specs.Views.{IsAhead}
-use Rattle.sqd_nesting.specs.declared.fault.MarkFault.{MarkFault}
-use Rattle.sqd_nesting.specs.declared.fault.MarkFault.TheVariants.{BadMark}
+use Rattle.sqd_scan.specs.declared.fault.SqdFault.{SqdFault}
+use Rattle.sqd_scan.specs.declared.fault.SqdFault.TheVariants.{BadMark, NotClosed}
 use Rattle.sqd_marks.proofs.ByteFacts.{tells}
 
 pub not_less : (b : ℕ) → (b ≡ 60 → ⊥) → is_text b ≡ true
@@ -33,7 +33,7 @@ loud at nest left gap k outside within text below blank bad =
     }
 
 -- the fault stands behind the text
-pub behind : (at : ℕ) (nest : Nest) (left : List ℕ) (gap here : ℕ) (fault : MarkFault) → here ≡ at + gap → gap ≤ length left → Each is_text (take gap left) → IsQuiet nest (take gap left) → BeginsMark (drop gap left) → IsFaultAt here nest (drop gap left) fault → IsFaultIn at nest left fault
+pub behind : (at : ℕ) (nest : Nest) (left : List ℕ) (gap here : ℕ) (fault : SqdFault) → here ≡ at + gap → gap ≤ length left → Each is_text (take gap left) → IsQuiet nest (take gap left) → BeginsMark (drop gap left) → IsFaultAt here nest (drop gap left) fault → IsFaultIn at nest left fault
 behind at nest left gap here fault is within text quiet begins bad =
     let count : length (take gap left) ≡ gap = length-take-le gap left within in
     record {
@@ -43,6 +43,12 @@ behind at nest left gap here fault is within text quiet begins bad =
       text_only = text;
       found = inr (record { quiet = quiet; begins = begins; found = subst (λ n. IsFaultAt n nest (drop gap left) fault) (is ∙ ap (λ n. at + n) (sym count)) bad });
     }
+
+-- what begins with no mark has its fault at its place, where it is some bytes and not stray
+pub scanned : (at : ℕ) (n : Nest) (rest : List ℕ) (fault : SqdFault) → rest ≢ [] → (IsStray n rest → ⊥) → IsFaultOf at rest fault → IsFaultAt at n rest fault
+scanned at n rest (NotClosed k) some calm h = inl (h.0, record { some = some; cut = h.1; calm = calm })
+scanned at n rest (BadMark k) some calm h = inr (h.0, h.1, record { bad = h.2; calm = calm })
+scanned at n rest _ some calm h = absurd h
 
 -- what begins no mark isn't empty where it begins with a byte
 pub some_left : (rest : List ℕ) → nat_eq (length rest) 0 ≡ false → rest ≢ []

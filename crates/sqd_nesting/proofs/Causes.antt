@@ -4,19 +4,17 @@ use Rattle.std.proofs.lemmas.Bool.{eqb-false}
 use Rattle.sqd_marks.specs.Bytes.{begins_name, IsName}
 use Rattle.sqd_marks.specs.Marks.{Tag, IsTag, Mark, start, empty, close, comment, declaration, doctype, cdata, IsMark, mark_bytes, tag_bytes}
 use Rattle.sqd_scan.specs.Fronts.{IsCut, IsBadAt, IsFaultOf}
-use Rattle.sqd_scan.specs.declared.mark_scan.ScanFault.{ScanFault}
-use Rattle.sqd_scan.specs.declared.mark_scan.ScanFault.TheVariants.{Cut, BadAt}
 use Rattle.sqd_nesting.specs.Texts.{Opened, Nest, IsOutside, MayBegin, Turns}
 use Rattle.sqd_nesting.specs.Faults.{HasInnermost, HasOther, IsStray, BeginsWith, IsFaultAt}
-use Rattle.sqd_nesting.specs.declared.fault.MarkFault.{MarkFault}
-use Rattle.sqd_nesting.specs.declared.fault.MarkFault.TheVariants.{BadMark, NotClosed, WrongClose, Doctype, Cdata, Memory}
+use Rattle.sqd_scan.specs.declared.fault.SqdFault.{SqdFault}
+use Rattle.sqd_scan.specs.declared.fault.SqdFault.TheVariants.{BadMark, NotClosed, WrongClose, Doctype, Cdata}
 use Rattle.sqd_nesting.proofs.Once.{OneMark, no_mark}
 
 -- what the marks in front of bytes promise
 pub record Laws : Type 0 where
   pub one_mark : OneMark
-  pub no_fault : (bytes : List ℕ) (m : Mark) (x : List ℕ) (fault : ScanFault) → IsMark m → bytes ≡ mark_bytes m ++ x → IsFaultOf bytes fault → ⊥
-  pub one_fault : (bytes : List ℕ) (f g : ScanFault) → IsFaultOf bytes f → IsFaultOf bytes g → f ≡ g
+  pub no_fault : (at : ℕ) (bytes : List ℕ) (m : Mark) (x : List ℕ) (fault : SqdFault) → IsMark m → bytes ≡ mark_bytes m ++ x → IsFaultOf at bytes fault → ⊥
+  pub one_fault : (at : ℕ) (bytes : List ℕ) (f g : SqdFault) → IsFaultOf at bytes f → IsFaultOf at bytes g → f ≡ g
 
 -- lists with one more at the end
 pub record SameEnd (a b : List Opened) (x y : Opened) : Type 0 where
@@ -112,13 +110,13 @@ stray_stops at doctype n next rest x s e h turns = turns
 stray_stops at cdata n next rest x s e h turns = turns
 
 -- the fault of a mark that may not stand at this place
-abbrev fault_of : Mark → ℕ → MarkFault
+abbrev fault_of : Mark → ℕ → SqdFault
 fault_of doctype at = Doctype at
 fault_of cdata at = Cdata at
 fault_of _ at = WrongClose at
 
 -- the cause of a fault: a whole mark, the end of the text inside one or inside an element, an element that may not begin or end, a byte
-data Cause (at : ℕ) (n : Nest) (rest : List ℕ) (f : MarkFault) : Type 0 where
+data Cause (at : ℕ) (n : Nest) (rest : List ℕ) (f : SqdFault) : Type 0 where
   whole : (m : Mark) → IsMark m → BeginsWith m rest → (IsStray n rest → ⊥) → f ≡ fault_of m at → Cause at n rest f
   inside : rest ≢ [] → IsCut rest → (IsStray n rest → ⊥) → f ≡ NotClosed at → Cause at n rest f
   unclosed : (k : ℕ) → rest ≡ [] → HasInnermost k n → f ≡ NotClosed k → Cause at n rest f
@@ -128,7 +126,7 @@ data Cause (at : ℕ) (n : Nest) (rest : List ℕ) (f : MarkFault) : Type 0 wher
 no_inside : (name : List ℕ) (n : Nest) → HasOther name n → IsOutside n → ⊥
 no_inside name n h outside = some_end h.others h.innermost (sym outside ∙ h.opened)
 
-cause_of : (at : ℕ) (n : Nest) (rest : List ℕ) (f : MarkFault) → IsFaultAt at n rest f → Cause at n rest f
+cause_of : (at : ℕ) (n : Nest) (rest : List ℕ) (f : SqdFault) → IsFaultAt at n rest f → Cause at n rest f
 cause_of at n rest (Doctype k) h = whole doctype tt h.1 (no_bang n rest _ h.1.1) (ap Doctype h.0)
 cause_of at n rest (Cdata k) h = whole cdata tt h.1 (no_bang n rest _ h.1.1) (ap Cdata h.0)
 cause_of at n rest (WrongClose k) h = whole (close h.1.name h.1.after) h.1.valid h.1.begins (λ s. no_inside h.1.name n h.1.other s.outside) (ap WrongClose h.0)
@@ -136,7 +134,7 @@ cause_of at n rest (NotClosed k) (inl h) = inside h.1.some h.1.cut h.1.calm (ap 
 cause_of at n rest (NotClosed k) (inr h) = unclosed k h.none h.inside refl
 cause_of at n rest (BadMark k) (inl h) = stray h.1 (ap BadMark h.0)
 cause_of at n rest (BadMark k) (inr h) = broken h.0 h.2.bad h.2.calm (ap BadMark h.1)
-cause_of at n rest Memory h = absurd h
+cause_of at n rest _ h = absurd h
 
 pub no_bad : (j : ℕ) → IsBadAt [] j → ⊥
 no_bad j h = bytes_end h.front h.bad h.more h.is
@@ -146,20 +144,20 @@ no_bad j h = bytes_end h.front h.bad h.more h.is
     bytes_end (c ∷ a) b x e = cc e
 
 -- causes of one sort come first in this order: two of them are of one sort
-ordered : Laws → (at : ℕ) (n : Nest) (rest : List ℕ) (f g : MarkFault) → Cause at n rest f → Cause at n rest g → f ≡ g
+ordered : Laws → (at : ℕ) (n : Nest) (rest : List ℕ) (f g : SqdFault) → Cause at n rest f → Cause at n rest g → f ≡ g
 ordered law at n rest f g (whole m h b calm e) (whole k i c stay d) =
     let same = law.one_mark m k b.0 c.0 h i (sym b.1 ∙ c.1) in
     e ∙ ap (λ o. fault_of o at) same ∙ sym d
-ordered law at n rest f g (whole m h b calm e) (inside some cut stay d) = absurd (law.no_fault rest m b.0 Cut h b.1 cut)
+ordered law at n rest f g (whole m h b calm e) (inside some cut stay d) = absurd (law.no_fault at rest m b.0 (NotClosed at) h b.1 (refl, cut))
 ordered law at n rest f g (whole m h b calm e) (unclosed k none has d) = absurd (no_mark m b.0 (sym none ∙ b.1))
 ordered law at n rest f g (whole m h b calm e) (stray s d) = absurd (calm s)
-ordered law at n rest f g (whole m h b calm e) (broken j bad stay d) = absurd (law.no_fault rest m b.0 (BadAt j) h b.1 bad)
-ordered law at n rest f g (inside some cut calm e) (whole m h b stay d) = absurd (law.no_fault rest m b.0 Cut h b.1 cut)
+ordered law at n rest f g (whole m h b calm e) (broken j bad stay d) = absurd (law.no_fault at rest m b.0 (BadMark (at + j)) h b.1 (j, refl, bad))
+ordered law at n rest f g (inside some cut calm e) (whole m h b stay d) = absurd (law.no_fault at rest m b.0 (NotClosed at) h b.1 (refl, cut))
 ordered law at n rest f g (inside some cut calm e) (inside more gone stay d) = e ∙ sym d
 ordered law at n rest f g (inside some cut calm e) (unclosed k none has d) = absurd (some none)
 ordered law at n rest f g (inside some cut calm e) (stray s d) = absurd (calm s)
 ordered law at n rest f g (inside some cut calm e) (broken j bad stay d) =
-    let same : Cut ≡ BadAt j = law.one_fault rest Cut (BadAt j) cut bad in
+    let same : NotClosed at ≡ BadMark (at + j) = law.one_fault at rest (NotClosed at) (BadMark (at + j)) (refl, cut) (j, refl, bad) in
     absurd (cc same)
 ordered law at n rest f g (unclosed k none has e) (whole m h b stay d) = absurd (no_mark m b.0 (sym none ∙ b.1))
 ordered law at n rest f g (unclosed k none has e) (inside some cut stay d) = absurd (some none)
@@ -177,23 +175,21 @@ ordered law at n rest f g (stray s e) (unclosed j none own d) =
     absurd (cc both)
 ordered law at n rest f g (stray s e) (stray r d) = e ∙ sym d
 ordered law at n rest f g (stray s e) (broken j bad stay d) = absurd (stay s)
-ordered law at n rest f g (broken i bad calm e) (whole m h b stay d) = absurd (law.no_fault rest m b.0 (BadAt i) h b.1 bad)
+ordered law at n rest f g (broken i bad calm e) (whole m h b stay d) = absurd (law.no_fault at rest m b.0 (BadMark (at + i)) h b.1 (i, refl, bad))
 ordered law at n rest f g (broken i bad calm e) (inside some cut stay d) =
-    let same : Cut ≡ BadAt i = law.one_fault rest Cut (BadAt i) cut bad in
+    let same : NotClosed at ≡ BadMark (at + i) = law.one_fault at rest (NotClosed at) (BadMark (at + i)) (refl, cut) (i, refl, bad) in
     absurd (cc same)
 ordered law at n rest f g (broken i bad calm e) (unclosed j none own d) = absurd (no_bad i (subst (λ r. IsBadAt r i) none bad))
 ordered law at n rest f g (broken i bad calm e) (stray s d) = absurd (calm s)
 ordered law at n rest f g (broken i bad calm e) (broken j worse stay d) =
-    let both : BadAt i ≡ BadAt j = law.one_fault rest (BadAt i) (BadAt j) bad worse in
-    let same : i ≡ j = cc both in
-    e ∙ ap (λ k. BadMark (at + k)) same ∙ sym d
+    e ∙ law.one_fault at rest (BadMark (at + i)) (BadMark (at + j)) (i, refl, bad) (j, refl, worse) ∙ sym d
 
 -- what is left has one fault where it begins
-pub one_cause : Laws → (at : ℕ) (n : Nest) (rest : List ℕ) (f g : MarkFault) → IsFaultAt at n rest f → IsFaultAt at n rest g → f ≡ g
+pub one_cause : Laws → (at : ℕ) (n : Nest) (rest : List ℕ) (f g : SqdFault) → IsFaultAt at n rest f → IsFaultAt at n rest g → f ≡ g
 one_cause law at n rest f g h i = ordered law at n rest f g (cause_of at n rest f h) (cause_of at n rest g i)
 
 -- a mark that turns what is open has no fault
-pub no_cause : Laws → (at here : ℕ) (n next : Nest) (rest x : List ℕ) (m : Mark) (f : MarkFault) → IsMark m → rest ≡ mark_bytes m ++ x → Turns here m n next → IsFaultAt at n rest f → ⊥
+pub no_cause : Laws → (at here : ℕ) (n next : Nest) (rest x : List ℕ) (m : Mark) (f : SqdFault) → IsMark m → rest ≡ mark_bytes m ++ x → Turns here m n next → IsFaultAt at n rest f → ⊥
 no_cause law at here n next rest x m (Doctype k) h e turns fault =
     let same = law.one_mark m doctype x fault.1.0 h tt (sym e ∙ fault.1.1) in
     subst (λ o. Turns here o n next) same turns
@@ -206,8 +202,8 @@ no_cause law at here n next rest x m (WrongClose k) h e turns fault =
     let ended = subst (λ o. Turns here o n next) same turns in
     let last = (same_end next.opened wrong.other.others ended.innermost wrong.other.innermost (sym ended.opened ∙ wrong.other.opened)).last in
     wrong.other.named (sym (ap (λ o. o.name) last) ∙ ended.named)
-no_cause law at here n next rest x m (NotClosed k) h e turns (inl fault) = law.no_fault rest m x Cut h e fault.1.cut
+no_cause law at here n next rest x m (NotClosed k) h e turns (inl fault) = law.no_fault at rest m x (NotClosed at) h e (refl, fault.1.cut)
 no_cause law at here n next rest x m (NotClosed k) h e turns (inr fault) = no_mark m x (sym fault.none ∙ e)
 no_cause law at here n next rest x m (BadMark k) h e turns (inl fault) = stray_stops here m n next rest x fault.1 e h turns
-no_cause law at here n next rest x m (BadMark k) h e turns (inr fault) = law.no_fault rest m x (BadAt fault.0) h e fault.2.bad
-no_cause law at here n next rest x m Memory h e turns fault = fault
+no_cause law at here n next rest x m (BadMark k) h e turns (inr fault) = law.no_fault at rest m x (BadMark (at + fault.0)) h e (fault.0, refl, fault.2.bad)
+no_cause law at here n next rest x m _ h e turns fault = absurd fault

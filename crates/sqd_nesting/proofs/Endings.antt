@@ -6,8 +6,8 @@ use Rattle.sqd_marks.specs.Bytes.{is_blank, Each, Stops}
 use Rattle.sqd_marks.specs.Marks.{close, doctype, cdata, mark_bytes}
 use Rattle.sqd_nesting.specs.Texts.{Item, IsItem, item_bytes, is_text, Nest, IsOutside, IsQuiet, Passes, Nested, IsWhole, mark_len, at_first}
 use Rattle.sqd_nesting.specs.Faults.{IsLoud, BeginsMark, IsBehind, IsFaultAt, IsFaultIn, IsFirstFault}
-use Rattle.sqd_nesting.specs.declared.fault.MarkFault.{MarkFault}
-use Rattle.sqd_nesting.specs.declared.fault.MarkFault.TheVariants.{BadMark, NotClosed, WrongClose, Doctype, Cdata, Memory}
+use Rattle.sqd_scan.specs.declared.fault.SqdFault.{SqdFault}
+use Rattle.sqd_scan.specs.declared.fault.SqdFault.TheVariants.{BadMark, NotClosed, WrongClose, Doctype, Cdata}
 use Rattle.sqd_nesting.proofs.Once.{begin_stops, mark_stops, no_mark, each_quiet, blank_is_text, same_item}
 use Rattle.sqd_nesting.proofs.Causes.{Laws, some_end, no_bad, one_turn, one_cause, no_cause}
 use Rattle.sqd_marks.proofs.Spans.{span}
@@ -50,7 +50,7 @@ stands_in p (c ∷ a) x (d ∷ t) y b h g s e =
     on_byte c d a t b first (stands_in p a x t y b h.1 g s rest)
 
 -- text that isn't blank outside the root isn't quiet
-loud_not_quiet : (at : ℕ) (n : Nest) (between rest t y : List ℕ) (f : MarkFault) → IsLoud at n between f → Each is_text between → between ++ rest ≡ t ++ y → Stops is_text y → IsQuiet n t → ⊥
+loud_not_quiet : (at : ℕ) (n : Nest) (between rest t y : List ℕ) (f : SqdFault) → IsLoud at n between f → Each is_text between → between ++ rest ≡ t ++ y → Stops is_text y → IsQuiet n t → ⊥
 loud_not_quiet at n between rest t y f h text e s quiet =
     let all : Each is_text (h.blanks ++ h.byte ∷ h.more) = subst (Each is_text) h.is text in
     let cut : h.blanks ++ h.byte ∷ (h.more ++ rest) ≡ t ++ y = sym (append_assoc h.blanks (h.byte ∷ h.more) rest) ∙ ap (λ b. b ++ rest) (sym h.is) ∙ e in
@@ -59,12 +59,12 @@ loud_not_quiet at n between rest t y f h text e s quiet =
     cc (blank, h.not_blank)
 
 -- how a text ends behind its items: with a fault, or with blanks and nothing open
-abbrev IsEnding : ℕ → Nest → List ℕ → Option MarkFault → Type 0
+abbrev IsEnding : ℕ → Nest → List ℕ → Option SqdFault → Type 0
 IsEnding at n left None = IsOutside n × Each is_blank left
 IsEnding at n left (Some f) = IsFaultIn at n left f
 
 -- no item that may stand is left at an ending
-fault_no_item : Laws → (at here : ℕ) (n next : Nest) (left x : List ℕ) (i : Item) (f : MarkFault) → IsItem i → Passes here i n next → left ≡ item_bytes i ++ x → IsFaultIn at n left f → ⊥
+fault_no_item : Laws → (at here : ℕ) (n next : Nest) (left x : List ℕ) (i : Item) (f : SqdFault) → IsItem i → Passes here i n next → left ≡ item_bytes i ++ x → IsFaultIn at n left f → ⊥
 fault_no_item law at here n next left x i f h passes e fault = elim fault.found [
   | inl loud ↦ loud_not_quiet at n fault.between fault.rest i.text (mark_bytes i.mark ++ x) f loud fault.text_only (sym fault.is ∙ e ∙ append_assoc i.text (mark_bytes i.mark) x) (mark_stops i.mark x) passes.quiet
   | inr behind ↦
@@ -79,19 +79,19 @@ blank_no_mark i left x h e =
     let same = span is_text (mark_bytes i.mark ++ x) [] [] (mark_bytes i.mark ++ x) text tt tt (mark_stops i.mark x) (append-nil (mark_bytes i.mark ++ x)) in
     no_mark i.mark x same.rest
 
-ending_no_item : Laws → (at here : ℕ) (n next : Nest) (left x : List ℕ) (i : Item) (o : Option MarkFault) → IsItem i → Passes here i n next → left ≡ item_bytes i ++ x → IsEnding at n left o → ⊥
+ending_no_item : Laws → (at here : ℕ) (n next : Nest) (left x : List ℕ) (i : Item) (o : Option SqdFault) → IsItem i → Passes here i n next → left ≡ item_bytes i ++ x → IsEnding at n left o → ⊥
 ending_no_item law at here n next left x i None h passes e ending = blank_no_mark i left x ending.1 e
 ending_no_item law at here n next left x i (Some f) h passes e ending = fault_no_item law at here n next left x i f h passes e ending
 
 -- two first bytes that aren't blank are one
-loud_twice : (at : ℕ) (n : Nest) (a b x y : List ℕ) (f g : MarkFault) → IsLoud at n a f → IsLoud at n b g → a ++ x ≡ b ++ y → f ≡ g
+loud_twice : (at : ℕ) (n : Nest) (a b x y : List ℕ) (f g : SqdFault) → IsLoud at n a f → IsLoud at n b g → a ++ x ≡ b ++ y → f ≡ g
 loud_twice at n a b x y f g h k e =
     let left : a ++ x ≡ h.blanks ++ h.byte ∷ (h.more ++ x) = ap (λ l. l ++ x) h.is ∙ append_assoc h.blanks (h.byte ∷ h.more) x in
     let right : b ++ y ≡ k.blanks ++ k.byte ∷ (k.more ++ y) = ap (λ l. l ++ y) k.is ∙ append_assoc k.blanks (k.byte ∷ k.more) y in
     let same = span is_blank h.blanks k.blanks _ _ h.blank k.blank h.not_blank k.not_blank (sym left ∙ e ∙ right) in
     h.fault_is ∙ ap (λ l. BadMark (at + length l)) same.front ∙ sym k.fault_is
 
-one_fault_in : Laws → (at : ℕ) (n : Nest) (left : List ℕ) (f g : MarkFault) → IsFaultIn at n left f → IsFaultIn at n left g → f ≡ g
+one_fault_in : Laws → (at : ℕ) (n : Nest) (left : List ℕ) (f g : SqdFault) → IsFaultIn at n left f → IsFaultIn at n left g → f ≡ g
 one_fault_in law at n left f g h k = by h.found k.found
   where
     both : h.between ++ h.rest ≡ k.between ++ k.rest
@@ -107,7 +107,7 @@ one_fault_in law at n left f g h k = by h.found k.found
         one_cause law (at + length k.between) n k.rest f g there b.found
 
 -- where only blanks are left and nothing is open there is no fault
-end_no_fault : (at : ℕ) (n : Nest) (f : MarkFault) → IsOutside n → IsFaultAt at n [] f → ⊥
+end_no_fault : (at : ℕ) (n : Nest) (f : SqdFault) → IsOutside n → IsFaultAt at n [] f → ⊥
 end_no_fault at n (Doctype k) outside h = no_mark doctype h.1.0 h.1.1
 end_no_fault at n (Cdata k) outside h = no_mark cdata h.1.0 h.1.1
 end_no_fault at n (WrongClose k) outside h = no_mark (close h.1.name h.1.after) h.1.begins.0 h.1.begins.1
@@ -115,7 +115,7 @@ end_no_fault at n (NotClosed k) outside (inl h) = h.1.some refl
 end_no_fault at n (NotClosed k) outside (inr h) = some_end h.inside.others h.inside.innermost (sym outside ∙ h.inside.opened)
 end_no_fault at n (BadMark k) outside (inl h) = cc h.1.is
 end_no_fault at n (BadMark k) outside (inr h) = no_bad h.0 h.2.bad
-end_no_fault at n Memory outside h = h
+end_no_fault at n _ outside h = absurd h
 
 no_rest : (rest : List ℕ) → BeginsMark rest → Each is_blank rest → rest ≡ []
 no_rest [] h g = refl
@@ -123,7 +123,7 @@ no_rest (b ∷ rest) h g =
     let wrong : is_blank 60 ≡ true = ap is_blank (sym h) ∙ g.0 in
     absurd (cc wrong)
 
-blank_no_fault : (at : ℕ) (n : Nest) (left : List ℕ) (f : MarkFault) → IsOutside n → Each is_blank left → IsFaultIn at n left f → ⊥
+blank_no_fault : (at : ℕ) (n : Nest) (left : List ℕ) (f : SqdFault) → IsOutside n → Each is_blank left → IsFaultIn at n left f → ⊥
 blank_no_fault at n left f outside blank fault =
     let all : Each is_blank (fault.between ++ fault.rest) = subst (Each is_blank) fault.is blank in
     elim fault.found [
@@ -136,27 +136,27 @@ blank_no_fault at n left f outside blank fault =
           end_no_fault (at + length fault.between) n f outside (subst (λ r. IsFaultAt (at + length fault.between) n r f) none behind.found)
     ]
 
-one_ending : Laws → (at : ℕ) (n : Nest) (left : List ℕ) (o p : Option MarkFault) → IsEnding at n left o → IsEnding at n left p → o ≡ p
+one_ending : Laws → (at : ℕ) (n : Nest) (left : List ℕ) (o p : Option SqdFault) → IsEnding at n left o → IsEnding at n left p → o ≡ p
 one_ending law at n left None None h k = refl
 one_ending law at n left None (Some g) h k = absurd (blank_no_fault at n left g h.0 h.1 k)
 one_ending law at n left (Some f) None h k = absurd (blank_no_fault at n left f k.0 k.1 h)
 one_ending law at n left (Some f) (Some g) h k = ap Some (one_fault_in law at n left f g h k)
 
 -- what follows an item, as far as the item says
-record Follows (at : ℕ) (old next : Nest) (i : Item) (items : List Item) (nest : Nest) (left : List ℕ) (o : Option MarkFault) : Type 0 where
+record Follows (at : ℕ) (old next : Nest) (i : Item) (items : List Item) (nest : Nest) (left : List ℕ) (o : Option SqdFault) : Type 0 where
   passes : Passes at i old next
   nested : Nested (at + length (item_bytes i)) next items nest
   ending : IsEnding (at + length (item_bytes i ++ flat_map item_bytes items)) nest left o
 
 -- the ending, counted from behind the item
-ending_behind : (at : ℕ) (i : Item) (items : List Item) (nest : Nest) (left : List ℕ) (o : Option MarkFault) → IsEnding (at + length (item_bytes i ++ flat_map item_bytes items)) nest left o → IsEnding (at + length (item_bytes i) + length (flat_map item_bytes items)) nest left o
+ending_behind : (at : ℕ) (i : Item) (items : List Item) (nest : Nest) (left : List ℕ) (o : Option SqdFault) → IsEnding (at + length (item_bytes i ++ flat_map item_bytes items)) nest left o → IsEnding (at + length (item_bytes i) + length (flat_map item_bytes items)) nest left o
 ending_behind at i items nest left o h =
     let long : length (item_bytes i ++ flat_map item_bytes items) ≡ length (item_bytes i) + length (flat_map item_bytes items) = length-append (item_bytes i) (flat_map item_bytes items) in
     let here : at + length (item_bytes i ++ flat_map item_bytes items) ≡ at + length (item_bytes i) + length (flat_map item_bytes items) = omega (arith, long) in
     subst (λ k. IsEnding k nest left o) here h
 
 -- a text has one ending behind its items
-pub endings : Laws → (at : ℕ) (n : Nest) (xs ys : List Item) (left right : List ℕ) (nx ny : Nest) (o p : Option MarkFault) → AllByRecursion IsItem xs → AllByRecursion IsItem ys → Nested at n xs nx → Nested at n ys ny → flat_map item_bytes xs ++ left ≡ flat_map item_bytes ys ++ right → IsEnding (at + length (flat_map item_bytes xs)) nx left o → IsEnding (at + length (flat_map item_bytes ys)) ny right p → o ≡ p
+pub endings : Laws → (at : ℕ) (n : Nest) (xs ys : List Item) (left right : List ℕ) (nx ny : Nest) (o p : Option SqdFault) → AllByRecursion IsItem xs → AllByRecursion IsItem ys → Nested at n xs nx → Nested at n ys ny → flat_map item_bytes xs ++ left ≡ flat_map item_bytes ys ++ right → IsEnding (at + length (flat_map item_bytes xs)) nx left o → IsEnding (at + length (flat_map item_bytes ys)) ny right p → o ≡ p
 endings law at n [] [] left right nx ny o p hs gs h k e u v =
     let first = subst (λ l. IsEnding (at + 0) n l o) e (subst (λ m. IsEnding (at + 0) m left o) (sym h) u) in
     let second = subst (λ m. IsEnding (at + 0) m right p) (sym k) v in
@@ -176,13 +176,13 @@ endings law at n (i ∷ xs) (j ∷ ys) left right nx ny o p hs gs h k e u v =
     endings law (at + length (item_bytes i)) h.0 xs ys left right nx ny o p hs.1 gs.1 h.2 nested first.rest (ending_behind at i xs nx left o u) (ending_behind at i ys ny right p there.ending)
 
 -- a text has one first fault at most
-pub one_first_fault : Laws → (text : List ℕ) (f g : MarkFault) → IsFirstFault text f → IsFirstFault text g → f ≡ g
+pub one_first_fault : Laws → (text : List ℕ) (f g : SqdFault) → IsFirstFault text f → IsFirstFault text g → f ≡ g
 one_first_fault law text f g h k =
     let same : Some f ≡ Some g = endings law (mark_len text) at_first h.items k.items h.left k.left h.nest k.nest (Some f) (Some g) h.begins.valid k.begins.valid h.begins.nested k.begins.nested (sym h.begins.is ∙ k.begins.is) h.found k.found in
     cc same
 
 -- a whole text has none
-pub whole_no_fault : Laws → (text : List ℕ) (items : List Item) (f : MarkFault) → IsWhole text items → IsFirstFault text f → ⊥
+pub whole_no_fault : Laws → (text : List ℕ) (items : List Item) (f : SqdFault) → IsWhole text items → IsFirstFault text f → ⊥
 whole_no_fault law text items f h k =
     let same : None ≡ Some f = endings law (mark_len text) at_first items k.items h.rest k.left h.nest k.nest None (Some f) h.begins.valid k.begins.valid h.begins.nested k.begins.nested (sym h.begins.is ∙ k.begins.is) (h.closed, h.blank) k.found in
     cc same

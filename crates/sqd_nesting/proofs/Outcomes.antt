@@ -9,19 +9,18 @@ use Rattle.std.proofs.lemmas.Slice.Eq.{bytes_eq-Decides}
 use Rattle.sqd_marks.specs.Bytes.{is_blank, begins_name, Each}
 use Rattle.sqd_marks.specs.Marks.{Mark, start, empty, close, comment, declaration, doctype, cdata, IsMark, mark_bytes}
 use Rattle.sqd_scan.specs.Fronts.{HasMark, IsFaultOf}
-use Rattle.sqd_scan.specs.declared.mark_scan.ScanFault.{ScanFault}
-use Rattle.sqd_scan.specs.declared.mark_scan.ScanFault.TheVariants.{Cut, BadAt}
 use Rattle.sqd_nesting.specs.Texts.{Item, IsItem, item_bytes, is_text, Opened, Nest, IsOutside, IsQuiet, Turns, Passes, Begins, IsWhole, mark_len, at_first}
 use Rattle.sqd_nesting.specs.Faults.{IsStray, BeginsMark, IsFaultAt, IsFaultIn, IsFirstFault}
-use Rattle.sqd_nesting.specs.declared.fault.MarkFault.{MarkFault}
-use Rattle.sqd_nesting.specs.declared.fault.MarkFault.TheVariants.{BadMark, NotClosed, WrongClose, Doctype, Cdata}
+use Rattle.sqd_scan.specs.declared.fault.SqdFault.{SqdFault}
+use Rattle.sqd_scan.specs.declared.fault.SqdFault.TheVariants.{BadMark, NotClosed, WrongClose, Doctype, Cdata}
+use Rattle.sqd_nesting.proofs.Betweens.{scanned}
 use Rattle.sqd_marks.proofs.ByteFacts.{tells}
 use Rattle.sqd_nesting.proofs.Turning.{tag_may_begin}
 use Rattle.sqd_nesting.proofs.Reading.{valid_more, nested_more, mark_some}
 
 -- bytes begin with a mark, or have a fault of one
 abbrev pub SomeFront : Type 0
-SomeFront = (bytes : List ℕ) → HasMark bytes ⊎ ((fault : ScanFault) × IsFaultOf bytes fault)
+SomeFront = (at : ℕ) (bytes : List ℕ) → HasMark bytes ⊎ ((fault : SqdFault) × IsFaultOf at bytes fault)
 
 -- nothing is open, or an element is the innermost
 record Innermost (n : Nest) : Type 0 where
@@ -138,7 +137,7 @@ record TurnsTo (at : ℕ) (m : Mark) (n : Nest) : Type 0 where
   turns : Turns at m n next
 
 abbrev Turn : ℕ → Mark → Nest → List ℕ → Type 0
-Turn at m n rest = TurnsTo at m n ⊎ ((f : MarkFault) × IsFaultAt at n rest f)
+Turn at m n rest = TurnsTo at m n ⊎ ((f : SqdFault) × IsFaultAt at n rest f)
 
 close_turns : (at : ℕ) (name after x : List ℕ) (n : Nest) → IsMark (close name after) → (IsStray n (mark_bytes (close name after) ++ x) → ⊥) → Turn at (close name after) n (mark_bytes (close name after) ++ x)
 close_turns at name after x n h calm = elim (open_or_not n) [
@@ -175,10 +174,10 @@ record Ends (n : Nest) (left : List ℕ) : Type 0 where
 data Step (at : ℕ) (n : Nest) (left : List ℕ) : Type 0 where
   passed : HasItem at n left → Step at n left
   ended : Ends n left → Step at n left
-  failed : (f : MarkFault) → IsFaultIn at n left f → Step at n left
+  failed : (f : SqdFault) → IsFaultIn at n left f → Step at n left
 
 -- behind text that may stand
-behind_text : (at : ℕ) (n : Nest) (left between rest : List ℕ) (f : MarkFault) → left ≡ between ++ rest → Each is_text between → IsQuiet n between → BeginsMark rest → IsFaultAt (at + length between) n rest f → Step at n left
+behind_text : (at : ℕ) (n : Nest) (left between rest : List ℕ) (f : SqdFault) → left ≡ between ++ rest → Each is_text between → IsQuiet n between → BeginsMark rest → IsFaultAt (at + length between) n rest f → Step at n left
 behind_text at n left between rest f is text quiet begins fault = failed f (record { between = between; rest = rest; is = is; text_only = text; found = inr (record { quiet = quiet; begins = begins; found = fault }) })
 
 step_mark : (at : ℕ) (n : Nest) (left between rest : List ℕ) → left ≡ between ++ rest → Each is_text between → IsQuiet n between → BeginsMark rest → (IsStray n rest → ⊥) → HasMark rest → Step at n left
@@ -195,11 +194,9 @@ step_mark at n left between rest is text quiet begins calm h =
       | inr bad ↦ behind_text at n left between rest bad.0 is text quiet begins (subst (λ r. IsFaultAt (at + length between) n r bad.0) (sym h.is) bad.1)
     ]
 
-step_fault : (at : ℕ) (n : Nest) (left between rest : List ℕ) (fault : ScanFault) → left ≡ between ++ rest → Each is_text between → IsQuiet n between → BeginsMark rest → rest ≢ [] → (IsStray n rest → ⊥) → IsFaultOf rest fault → Step at n left
-step_fault at n left between rest Cut is text quiet begins some calm h =
-    behind_text at n left between rest (NotClosed (at + length between)) is text quiet begins (inl (refl, record { some = some; cut = h; calm = calm }))
-step_fault at n left between rest (BadAt j) is text quiet begins some calm h =
-    behind_text at n left between rest (BadMark (at + length between + j)) is text quiet begins (inr (j, refl, record { bad = h; calm = calm }))
+step_fault : (at : ℕ) (n : Nest) (left between rest : List ℕ) (fault : SqdFault) → left ≡ between ++ rest → Each is_text between → IsQuiet n between → BeginsMark rest → rest ≢ [] → (IsStray n rest → ⊥) → IsFaultOf (at + length between) rest fault → Step at n left
+step_fault at n left between rest fault is text quiet begins some calm h =
+    behind_text at n left between rest fault is text quiet begins (scanned (at + length between) n rest fault some calm h)
 
 step_rest : SomeFront → (at : ℕ) (n : Nest) (left between rest : List ℕ) → left ≡ between ++ rest → Each is_text between → IsQuiet n between → BeginsMark rest → Step at n left
 step_rest law at n left between [] is text quiet begins = elim (open_or_not n) [
@@ -209,7 +206,7 @@ step_rest law at n left between [] is text quiet begins = elim (open_or_not n) [
 step_rest law at n left between (b ∷ rest) is text quiet begins =
     elim (subst (λ c. Strayness n (c ∷ rest)) (sym begins) (strayness n rest)) [
       | inl stray ↦ behind_text at n left between (b ∷ rest) (BadMark (at + length between)) is text quiet begins (inl (refl, stray))
-      | inr calm ↦ elim (law (b ∷ rest)) [
+      | inr calm ↦ elim (law (at + length between) (b ∷ rest)) [
         | inl h ↦ step_mark at n left between (b ∷ rest) is text quiet begins calm h
         | inr bad ↦ step_fault at n left between (b ∷ rest) bad.0 is text quiet begins (λ e. cc e) calm bad.1
       ]
@@ -234,7 +231,7 @@ step_of law at n left =
 
 -- a whole text, or one with a first fault
 abbrev pub Outcome : List ℕ → Type 0
-Outcome text = ((items : List Item) × IsWhole text items) ⊎ ((f : MarkFault) × IsFirstFault text f)
+Outcome text = ((items : List Item) × IsWhole text items) ⊎ ((f : SqdFault) × IsFirstFault text f)
 
 further : (text : List ℕ) (items : List Item) (n : Nest) (left : List ℕ) → Begins text items n left → (h : HasItem (mark_len text + length (flat_map item_bytes items)) n left) → Begins text (items ++ h.item ∷ []) h.next h.more
 further text items n left b h =

@@ -5,13 +5,13 @@ use Rattle.std.proofs.lemmas.List.{append-nil, take-append-drop, length-take-le}
 use Rattle.std.proofs.lemmas.List.Concat.{flat_map-append}
 use Rattle.sqd_marks.specs.Marks.{Mark, start, empty, close, comment, declaration, doctype, cdata, IsMark, kind_of, mark_bytes}
 use Rattle.sqd_nesting.specs.Texts.{Item, IsItem, item_bytes, Nest, Turns, Passes, Nested, Begins, mark_len, at_first}
-use Rattle.sqd_nesting.specs.Faults.{IsStray, IsFaultAt, IsFaultIn, IsFirstFault, IsRefused, HasInnermost, BeginsMark}
+use Rattle.sqd_nesting.specs.Faults.{IsStray, IsFaultAt, IsFaultIn, IsFirstFault, HasInnermost, BeginsMark}
 use Rattle.sqd_nesting.specs.Views.{nest_of, Shows, ShowAll, IsRead, IsNext, IsLast, IsPassed, IsEnd, IsFaultOrMemory}
 use Rattle.sqd_nesting.specs.declared.read.Passed.{Passed}
 use Rattle.sqd_nesting.specs.declared.ahead.Ahead.{Ahead}
 use Rattle.sqd_nesting.specs.declared.read.Found.{Found}
-use Rattle.sqd_nesting.specs.declared.fault.MarkFault.{MarkFault}
-use Rattle.sqd_nesting.specs.declared.fault.MarkFault.TheVariants.{BadMark, NotClosed, WrongClose, Doctype, Cdata, Memory}
+use Rattle.sqd_scan.specs.declared.fault.SqdFault.{SqdFault}
+use Rattle.sqd_scan.specs.declared.fault.SqdFault.TheVariants.{NotClosed, Memory}
 use Rattle.sqd_nesting.proofs.Betweens.{behind}
 
 -- what was read so far
@@ -92,18 +92,10 @@ read_on text at left found old p r h =
       shown = shown_more (mark_len text) found r.items p.found h.item r.shown (subst (λ k. Shows k p.found h.item) r.place h.shown);
     }
 
-refused : (text : List ℕ) (fault : MarkFault) → IsFirstFault text fault → IsRefused text fault
-refused text (BadMark k) h = h
-refused text (NotClosed k) h = h
-refused text (WrongClose k) h = h
-refused text (Doctype k) h = h
-refused text (Cdata k) h = h
-refused text Memory h = tt
-
 -- a fault in what is left, or want of memory
-pub refused_in : (text : List ℕ) (at : ℕ) (left : List ℕ) (found : List Found) (nest : Nest) (fault : MarkFault) → Reading text at left found nest → IsFaultOrMemory at nest left fault → IsRefused text fault
-refused_in text at left found nest fault r (inl e) = subst (IsRefused text) (sym e) tt
-refused_in text at left found nest fault r (inr h) = refused text fault (record { items = r.items; nest = nest; left = left; begins = r.begins; found = subst (λ k. IsFaultIn k nest left fault) r.place h })
+pub refused_in : (text : List ℕ) (at : ℕ) (left : List ℕ) (found : List Found) (nest : Nest) (fault : SqdFault) → Reading text at left found nest → IsFaultOrMemory at nest left fault → (fault ≡ Memory) ⊎ IsFirstFault text fault
+refused_in text at left found nest fault r (inl e) = inl e
+refused_in text at left found nest fault r (inr h) = inr (record { items = r.items; nest = nest; left = left; begins = r.begins; found = subst (λ k. IsFaultIn k nest left fault) r.place h })
 
 pub begins_mark : (m : Mark) (more : List ℕ) → BeginsMark (mark_bytes m ++ more)
 begins_mark (start t) more = refl
@@ -115,7 +107,7 @@ begins_mark doctype more = refl
 begins_mark cdata more = refl
 
 -- a fault of a mark that was scanned
-pub turn_fault : (at : ℕ) (left : List ℕ) (old : Nest) (a : Ahead) (fault : MarkFault) (bytes : List ℕ) → IsNext old left a → bytes ≡ take a.whole.len (drop a.gap left)
+pub turn_fault : (at : ℕ) (left : List ℕ) (old : Nest) (a : Ahead) (fault : SqdFault) (bytes : List ℕ) → IsNext old left a → bytes ≡ take a.whole.len (drop a.gap left)
     → ((fault ≡ Memory) ⊎ ((m : Mark) (more : List ℕ) → IsMark m → kind_of m ≡ a.whole.kind → mark_bytes m ≡ bytes → (IsStray old (bytes ++ more) → ⊥) → IsFaultAt (at + a.gap) old (bytes ++ more) fault))
     → IsFaultOrMemory at old left fault
 turn_fault at left old a fault bytes ahead is (inl e) = inl e

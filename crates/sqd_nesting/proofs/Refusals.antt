@@ -5,7 +5,7 @@ use Rattle.std.proofs.lemmas.Bool.{eqb-false}
 use Rattle.sqd_marks.specs.Marks.{start, comment, doctype}
 use Rattle.sqd_nesting.specs.Texts.{Item, IsItem, Opened, HasBegun, HasPassed, HasEnded, Turns, Passes, IsWhole, at_first}
 use Rattle.sqd_nesting.specs.Faults.{IsFirstFault}
-use Rattle.sqd_nesting.specs.declared.fault.MarkFault.TheVariants.{BadMark, NotClosed, WrongClose, Doctype}
+use Rattle.sqd_scan.specs.declared.fault.SqdFault.TheVariants.{BadMark, NotClosed, WrongClose, Doctype}
 use Rattle.sqd_nesting.proofs.Causes.{Laws}
 use Rattle.sqd_nesting.proofs.Endings.{one_first_fault, whole_no_fault}
 use Rattle.sqd_nesting.proofs.StandardFacts.{tag, item, nest, opened, wrong_close, not_closed, second_root, half_mark, with_doctype}

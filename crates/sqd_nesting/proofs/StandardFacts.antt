@@ -5,7 +5,7 @@ use Rattle.std.proofs.lemmas.Bool.{eqb-false}
 use Rattle.sqd_marks.specs.Marks.{Tag, Mark, start, empty, close, comment, IsTag}
 use Rattle.sqd_nesting.specs.Texts.{Item, Opened, Nest, IsWhole, at_first}
 use Rattle.sqd_nesting.specs.Faults.{IsFirstFault}
-use Rattle.sqd_nesting.specs.declared.fault.MarkFault.TheVariants.{BadMark, NotClosed, WrongClose, Doctype}
+use Rattle.sqd_scan.specs.declared.fault.SqdFault.TheVariants.{BadMark, NotClosed, WrongClose, Doctype}
 
 -- `a`, `b` and `</b>`
 abbrev pub tag : List ℕ → Tag

@@ -6,7 +6,7 @@ use Rattle.sqd_marks.specs.Tags.{IsTagOf}
 use Rattle.sqd_marks.specs.declared.kind.Kind.TheVariants as kinds
 use Rattle.sqd_nesting.specs.Texts.{Nest, MayBegin, Turns, HasBegun, HasPassed, HasEnded}
 use Rattle.sqd_nesting.specs.Faults.{HasOther, EndsOther, IsStray, IsFaultAt}
-use Rattle.sqd_nesting.specs.declared.fault.MarkFault.TheVariants.{WrongClose, Doctype, Cdata}
+use Rattle.sqd_scan.specs.declared.fault.SqdFault.TheVariants.{WrongClose, Doctype, Cdata}
 use Rattle.sqd_marks.proofs.ByteFacts.{tells}
 
 -- an element may begin where its mark isn't stray

@@ -5,8 +5,8 @@ use Rattle.sqd_marks.specs.Bytes.{is_blank, begins_name, Each}
 use Rattle.sqd_marks.specs.Marks.{Mark, close, doctype, cdata, IsMark, mark_bytes}
 use Rattle.sqd_scan.specs.Fronts.{IsCut, IsBadAt}
 use Rattle.sqd_nesting.specs.Texts.{is_text, item_bytes, Item, Opened, Nest, IsOutside, IsQuiet, mark_len, Begins}
-use Rattle.sqd_nesting.specs.declared.fault.MarkFault.{MarkFault}
-use Rattle.sqd_nesting.specs.declared.fault.MarkFault.TheVariants.{BadMark, NotClosed, WrongClose, Doctype, Cdata, Memory}
+use Rattle.sqd_scan.specs.declared.fault.SqdFault.{SqdFault}
+use Rattle.sqd_scan.specs.declared.fault.SqdFault.TheVariants.{BadMark, NotClosed, WrongClose, Doctype, Cdata}
 
 -- the innermost element that isn't closed begins here
 pub record HasInnermost (at : ℕ) (n : Nest) : Type 0 where
@@ -63,17 +63,17 @@ pub record IsBroken (j : ℕ) (n : Nest) (rest : List ℕ) : Type 0 where
   pub calm : IsStray n rest → ⊥
 
 -- the fault of what is left from this place on, behind text that may stand, where this is open
-abbrev pub IsFaultAt : ℕ → Nest → List ℕ → MarkFault → Type 0
+abbrev pub IsFaultAt : ℕ → Nest → List ℕ → SqdFault → Type 0
 IsFaultAt at n rest (Doctype k) = (k ≡ at) × BeginsWith doctype rest
 IsFaultAt at n rest (Cdata k) = (k ≡ at) × BeginsWith cdata rest
 IsFaultAt at n rest (WrongClose k) = (k ≡ at) × IsWrongClose n rest
 IsFaultAt at n rest (NotClosed k) = ((k ≡ at) × EndsInside n rest) ⊎ EndsOpen k n rest
 IsFaultAt at n rest (BadMark k) =
     ((k ≡ at) × IsStray n rest) ⊎ ((j : ℕ) × (k ≡ at + j) × IsBroken j n rest)
-IsFaultAt at n rest Memory = ⊥
+IsFaultAt at n rest _ = ⊥
 
 -- text outside the root that isn't blank
-pub record IsLoud (at : ℕ) (nest : Nest) (text : List ℕ) (fault : MarkFault) : Type 0 where
+pub record IsLoud (at : ℕ) (nest : Nest) (text : List ℕ) (fault : SqdFault) : Type 0 where
   pub outside : IsOutside nest
   pub blanks : List ℕ
   pub byte : ℕ
@@ -89,13 +89,13 @@ BeginsMark [] = Unit {0}
 BeginsMark (b ∷ bs) = b ≡ 60
 
 -- text that may stand, and then a fault
-pub record IsBehind (at : ℕ) (nest : Nest) (between rest : List ℕ) (f : MarkFault) : Type 0 where
+pub record IsBehind (at : ℕ) (nest : Nest) (between rest : List ℕ) (f : SqdFault) : Type 0 where
   pub quiet : IsQuiet nest between
   pub begins : BeginsMark rest
   pub found : IsFaultAt (at + length between) nest rest f
 
 -- the fault of what is left from this place on, where this is open
-pub record IsFaultIn (at : ℕ) (nest : Nest) (left : List ℕ) (fault : MarkFault) : Type 0 where
+pub record IsFaultIn (at : ℕ) (nest : Nest) (left : List ℕ) (fault : SqdFault) : Type 0 where
   pub between : List ℕ
   pub rest : List ℕ
   pub is : left ≡ between ++ rest
@@ -103,14 +103,9 @@ pub record IsFaultIn (at : ℕ) (nest : Nest) (left : List ℕ) (fault : MarkFau
   pub found : IsLoud at nest between fault ⊎ IsBehind at nest between rest fault
 
 -- the first fault of the text's marks: items that may stand, and then it
-pub record IsFirstFault (text : List ℕ) (fault : MarkFault) : Type 0 where
+pub record IsFirstFault (text : List ℕ) (fault : SqdFault) : Type 0 where
   pub items : List Item
   pub nest : Nest
   pub left : List ℕ
   pub begins : Begins text items nest left
   pub found : IsFaultIn (mark_len text + length (flat_map item_bytes items)) nest left fault
-
--- the reader's answer at an error: the first fault, or want of memory
-abbrev pub IsRefused : List ℕ → MarkFault → Type 0
-IsRefused text Memory = Unit {0}
-IsRefused text fault = IsFirstFault text fault

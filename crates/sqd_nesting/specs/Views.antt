@@ -8,8 +8,8 @@ use Rattle.sqd_nesting.specs.Faults.{IsStray, IsFaultIn}
 use Rattle.sqd_nesting.specs.declared.ahead.Ahead.{Ahead}
 use Rattle.sqd_nesting.specs.declared.read.Found.{Found}
 use Rattle.sqd_nesting.specs.declared.read.Passed.{Passed}
-use Rattle.sqd_nesting.specs.declared.fault.MarkFault.{MarkFault}
-use Rattle.sqd_nesting.specs.declared.fault.MarkFault.TheVariants.{Memory}
+use Rattle.sqd_scan.specs.declared.fault.SqdFault.{SqdFault}
+use Rattle.sqd_scan.specs.declared.fault.SqdFault.TheVariants.{Memory}
 use Rattle.sqd_nesting.specs.declared.nest.Open.{Open}
 use Rattle.sqd_nesting.specs.declared.nest.Nesting.{Nesting}
 
@@ -78,5 +78,5 @@ IsStep at n left None = IsEnd n left
 IsStep at n left (Some p) = IsPassed at n left p
 
 -- the fault of what is left, or want of memory
-abbrev pub IsFaultOrMemory : ℕ → Nest → List ℕ → MarkFault → Type 0
+abbrev pub IsFaultOrMemory : ℕ → Nest → List ℕ → SqdFault → Type 0
 IsFaultOrMemory at n left fault = (fault ≡ Memory) ⊎ IsFaultIn at n left fault

@@ -5,11 +5,11 @@ ghost use Rattle.sqd_nesting.specs.Texts.{IsOutside, IsQuiet};
 ghost use Rattle.sqd_nesting.specs.Faults.{IsStray, IsFaultIn};
 ghost use Rattle.sqd_nesting.specs.Views.{nest_of, IsAhead};
 
+use crate::SqdFault;
 use crate::between::{first_not_blank, text_len};
-use crate::fault::MarkFault;
 use crate::nest::Nesting;
 use sqd_marks::begins_name;
-use sqd_scan::{ScanFault, Whole, scan};
+use sqd_scan::{Whole, scan};
 
 /// The next mark: how many bytes of text stand before it, and the mark.
 #[derive(Clone, Copy)]
@@ -45,25 +45,22 @@ fn is_stray(rest: &[u8], nesting: &Nesting) -> bool
 }
 
 /// The next mark in what is left from this place on.
-pub fn next_mark(left: &[u8], at: usize, nesting: &Nesting) -> Result<Option<Ahead>, MarkFault>
+pub fn next_mark(left: &[u8], at: usize, nesting: &Nesting) -> Result<Option<Ahead>, SqdFault>
     requires { at + length left.now < 2 ^ 64 }
     ensures ahead { IfOk result (IsAhead (nest_of nesting.now) left.now) }
     ensures fault { IfErr result (IsFaultIn at (nest_of nesting.now) left.now) }
 {
     let gap = text_len(left);
     if let Some(k) = loud_at(&left[..gap], nesting) {
-        return Err(MarkFault::BadMark(at + k));
+        return Err(SqdFault::BadMark(at + k));
     }
     let rest = &left[gap..];
     if rest.is_empty() {
         return Ok(None);
     }
     if is_stray(rest, nesting) {
-        return Err(MarkFault::BadMark(at + gap));
+        return Err(SqdFault::BadMark(at + gap));
     }
-    match scan(rest) {
-        Ok(whole) => Ok(Some(Ahead { gap, whole })),
-        Err(ScanFault::Cut) => Err(MarkFault::NotClosed(at + gap)),
-        Err(ScanFault::BadAt(k)) => Err(MarkFault::BadMark(at + gap + k)),
-    }
+    let whole = scan(rest, at + gap)?;
+    Ok(Some(Ahead { gap, whole }))
 }

@@ -2,7 +2,7 @@
 ghost use Rattle.std.specs.Prelude.{◌≡◌, ◌⊎◌, ℕ, List};
 ghost use Rattle.sqd_nesting.specs.Texts.{Item, IsWhole};
 ghost use Rattle.sqd_nesting.specs.Faults.{IsFirstFault};
-ghost use Rattle.sqd_nesting.specs.declared.fault.MarkFault.{MarkFault as FaultData};
+ghost use Rattle.sqd_scan.specs.declared.fault.SqdFault.{SqdFault as FaultData};
 
 /// A whole text is one list of items: its marks, each name, blank, quote and value of them, and
 /// what stands between them.

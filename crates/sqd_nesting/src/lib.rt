@@ -3,12 +3,11 @@
 
 mod ahead;
 mod between;
-mod fault;
 pub mod laws;
 mod nest;
 mod read;
 mod text_marks;
 
-pub use fault::MarkFault;
 pub use read::Found;
+pub use sqd_scan::SqdFault;
 pub use text_marks::read_marks;

@@ -3,9 +3,9 @@ ghost use Rattle.sqd_marks.specs.Marks.{Mark, IsMark, kind_of, mark_bytes};
 ghost use Rattle.sqd_nesting.specs.Texts.{Turns, IsOutside, HasBegun, HasEnded};
 ghost use Rattle.sqd_nesting.specs.Faults.{IsFaultAt, IsStray, EndsOther, HasInnermost};
 ghost use Rattle.sqd_nesting.specs.Views.{nest_of};
-ghost use Rattle.sqd_nesting.specs.declared.fault.MarkFault.TheVariants.{Memory, WrongClose};
+ghost use Rattle.sqd_scan.specs.declared.fault.SqdFault.TheVariants.{Memory, WrongClose};
 
-use crate::fault::MarkFault;
+use crate::SqdFault;
 use sqd_marks::{Kind, end_name, tag_name};
 use std::alloc::Global;
 
@@ -33,7 +33,7 @@ impl<'a> Nesting<'a> {
 }
 
 // What is open after a start mark.
-fn begin<'a>(nesting: Nesting<'a>, at: usize, name: &'a [u8]) -> Result<Nesting<'a>, MarkFault>
+fn begin<'a>(nesting: Nesting<'a>, at: usize, name: &'a [u8]) -> Result<Nesting<'a>, SqdFault>
     ensures ok { IfOk result (λ new. HasBegun at name.now (nest_of nesting.entry) (nest_of new)) }
     ensures err { IfErr result (λ fault. fault ≡ Memory) }
 {
@@ -46,7 +46,7 @@ fn begin<'a>(nesting: Nesting<'a>, at: usize, name: &'a [u8]) -> Result<Nesting<
 }
 
 // What is open after an end mark.
-fn end<'a>(nesting: Nesting<'a>, at: usize, name: &[u8]) -> Result<Nesting<'a>, MarkFault>
+fn end<'a>(nesting: Nesting<'a>, at: usize, name: &[u8]) -> Result<Nesting<'a>, SqdFault>
     ensures ok { IfOk result (λ new. HasEnded name.now (nest_of nesting.entry) (nest_of new)) }
     ensures err { IfErr result (λ fault. (fault ≡ WrongClose at)
         × EndsOther name.now (nest_of nesting.entry)) }
@@ -54,12 +54,12 @@ fn end<'a>(nesting: Nesting<'a>, at: usize, name: &[u8]) -> Result<Nesting<'a>, 
     let mut opened = nesting.opened;
     let rooted = nesting.rooted;
     match opened.pop() {
-        None => Err(MarkFault::WrongClose(at)),
+        None => Err(SqdFault::WrongClose(at)),
         Some(open) => {
             if open.name == name {
                 Ok(Nesting { opened, rooted })
             } else {
-                Err(MarkFault::WrongClose(at))
+                Err(SqdFault::WrongClose(at))
             }
         }
     }
@@ -71,7 +71,7 @@ pub fn turn<'a>(
     at: usize,
     kind: Kind,
     mark: &'a [u8],
-) -> Result<Nesting<'a>, MarkFault>
+) -> Result<Nesting<'a>, SqdFault>
     ensures ok { IfOk result (λ new. (m : Mark) (more : List ℕ)
         → IsMark m → kind_of m ≡ kind → mark_bytes m ≡ mark.now
         → (IsStray (nest_of nesting.entry) (mark.now ++ more) → ⊥)
@@ -93,8 +93,8 @@ pub fn turn<'a>(
         Kind::End => end(nesting, at, end_name(mark)),
         Kind::Comment => Ok(nesting),
         Kind::Declaration => Ok(nesting),
-        Kind::Doctype => Err(MarkFault::Doctype(at)),
-        Kind::Cdata => Err(MarkFault::Cdata(at)),
+        Kind::Doctype => Err(SqdFault::Doctype(at)),
+        Kind::Cdata => Err(SqdFault::Cdata(at)),
     }
 }
 

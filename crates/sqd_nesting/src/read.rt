@@ -1,8 +1,8 @@
 ghost use Rattle.std.specs.Prelude.{◌≡◌, ◌≤◌, ◌<◌, ◌+◌, ◌^◌, take, drop, length, IfOk, IfErr};
 ghost use Rattle.sqd_nesting.specs.Views.{nest_of, IsNext, IsStep, IsPassed, IsFaultOrMemory};
 
+use crate::SqdFault;
 use crate::ahead::{Ahead, next_mark};
-use crate::fault::MarkFault;
 use crate::nest::{Nesting, turn, unclosed};
 use sqd_marks::Kind;
 
@@ -51,7 +51,7 @@ fn cut_at(left: &[u8], gap: usize, len: usize) -> Cut
 }
 
 // Passes the mark that is ahead.
-fn pass<'a>(reader: Reader<'a>, ahead: Ahead) -> Result<Passed<'a>, MarkFault>
+fn pass<'a>(reader: Reader<'a>, ahead: Ahead) -> Result<Passed<'a>, SqdFault>
     requires room { reader.at + length reader.left.now < 2 ^ 64 }
     requires next { IsNext (nest_of reader.nesting) reader.left.now ahead }
     ensures ok { IfOk result (IsPassed reader.entry.at (nest_of reader.entry.nesting)
@@ -61,40 +61,34 @@ fn pass<'a>(reader: Reader<'a>, ahead: Ahead) -> Result<Passed<'a>, MarkFault>
 {
     let cut = cut_at(reader.left, ahead.gap, ahead.whole.len);
     let here = reader.at + ahead.gap;
-    match turn(reader.nesting, here, ahead.whole.kind, cut.bytes) {
-        Err(fault) => Err(fault),
-        Ok(nesting) => Ok(Passed {
-            found: Found {
-                at: here,
-                kind: ahead.whole.kind,
-                bytes: cut.bytes,
-            },
-            behind: Reader {
-                at: here + ahead.whole.len,
-                left: cut.behind,
-                nesting,
-            },
-        }),
-    }
+    let nesting = turn(reader.nesting, here, ahead.whole.kind, cut.bytes)?;
+    Ok(Passed {
+        found: Found {
+            at: here,
+            kind: ahead.whole.kind,
+            bytes: cut.bytes,
+        },
+        behind: Reader {
+            at: here + ahead.whole.len,
+            left: cut.behind,
+            nesting,
+        },
+    })
 }
 
 /// The next mark, or that the text is whole, or its fault.
-pub fn next_item<'a>(reader: Reader<'a>) -> Result<Option<Passed<'a>>, MarkFault>
+pub fn next_item<'a>(reader: Reader<'a>) -> Result<Option<Passed<'a>>, SqdFault>
     requires { reader.at + length reader.left.now < 2 ^ 64 }
     ensures ok { IfOk result (IsStep reader.entry.at (nest_of reader.entry.nesting)
         reader.entry.left.now) }
     ensures err { IfErr result (IsFaultOrMemory reader.entry.at (nest_of reader.entry.nesting)
         reader.entry.left.now) }
 {
-    match next_mark(reader.left, reader.at, &reader.nesting) {
-        Err(fault) => Err(fault),
-        Ok(None) => match unclosed(reader.nesting) {
+    match next_mark(reader.left, reader.at, &reader.nesting)? {
+        None => match unclosed(reader.nesting) {
             None => Ok(None),
-            Some(open) => Err(MarkFault::NotClosed(open)),
+            Some(open) => Err(SqdFault::NotClosed(open)),
         },
-        Ok(Some(ahead)) => match pass(reader, ahead) {
-            Err(fault) => Err(fault),
-            Ok(passed) => Ok(Some(passed)),
-        },
+        Some(ahead) => Ok(Some(pass(reader, ahead)?)),
     }
 }

@@ -1,18 +1,19 @@
-ghost use Rattle.std.specs.Prelude.{◌≡◌, ◌<◌, ◌+◌, ◌^◌, length, IfOk, IfErr};
-ghost use Rattle.sqd_nesting.specs.Faults.{IsRefused};
+ghost use Rattle.std.specs.Prelude.{◌≡◌, ◌⊎◌, ◌<◌, ◌+◌, ◌^◌, length, IfOk, IfErr};
+ghost use Rattle.sqd_scan.specs.declared.fault.SqdFault.TheVariants.{Memory as OutOfMemory};
+ghost use Rattle.sqd_nesting.specs.Faults.{IsFirstFault};
 ghost use Rattle.sqd_nesting.specs.Views.{IsRead};
 
+use crate::SqdFault;
 use crate::between::bom_len;
-use crate::fault::MarkFault;
 use crate::nest::Nesting;
 use crate::read::{Found, Reader, next_item};
 use std::alloc::Global;
 
-/// The marks of the text in their order, where they nest, or the first fault. Each byte is read a
+/// The marks of the text in their order, where they nest, or its first fault, or `Memory`. Each byte is read a
 /// few times, however deep elements lie in each other.
-pub fn read_marks(alloc: Global, text: &[u8]) -> Result<Vec<Found>, MarkFault>
+pub fn read_marks(alloc: Global, text: &[u8]) -> Result<Vec<Found>, SqdFault>
     ensures whole { IfOk result (λ found. IsRead text.now found.items) }
-    ensures refused { IfErr result (IsRefused text.now) }
+    ensures refused { IfErr result (λ fault. (fault ≡ OutOfMemory) ⊎ IsFirstFault text.now fault) }
 {
     let at = bom_len(text);
     let nesting = Nesting {
@@ -25,14 +26,9 @@ pub fn read_marks(alloc: Global, text: &[u8]) -> Result<Vec<Found>, MarkFault>
         nesting,
     };
     let mut found = Vec::new(alloc);
-    'marks: loop {
-        match next_item(reader) {
-            Err(fault) => return Err(fault),
-            Ok(None) => return Ok(found),
-            Ok(Some(passed)) => {
-                found.push(passed.found)?;
-                reader = passed.behind;
-            }
-        }
+    'marks: while let Some(passed) = next_item(reader)? {
+        found.push(passed.found)?;
+        reader = passed.behind;
     }
+    Ok(found)
 }

@@ -3,8 +3,8 @@ use Rattle.std.proofs.Common.{◌≡◌, ◌∙◌, sym, ap, refl, subst, ℕ, L
 use Rattle.std.proofs.Common.{arith, length, length-append, append_assoc, ◌+◌, ◌≤◌, ◌⊎◌, inl, inr}
 use Rattle.std.proofs.lemmas.List.{append-nil}
 use Rattle.sqd_scan.specs.Fronts.{IsFront, IsCut, IsBadAt, IsFaultOf}
-use Rattle.sqd_scan.specs.declared.mark_scan.ScanFault.{ScanFault}
-use Rattle.sqd_scan.specs.declared.mark_scan.ScanFault.TheVariants.{Cut, BadAt}
+use Rattle.sqd_scan.specs.declared.fault.SqdFault.{SqdFault}
+use Rattle.sqd_scan.specs.declared.fault.SqdFault.TheVariants.{BadMark, NotClosed}
 use Rattle.sqd_marks.specs.Marks.{Mark, IsMark, mark_bytes, kind_of}
 use Rattle.sqd_scan.specs.Scanning.{step}
 use Rattle.sqd_scan.proofs.Runs.{then, run}
@@ -95,9 +95,10 @@ bad_no_mark bytes at m x h g e = elim (ends_or_takes h.front h.more (mark_bytes 
 ]
 
 -- bytes that begin with a mark have no fault of a mark
-pub no_fault : (bytes : List ℕ) (m : Mark) (x : List ℕ) (fault : ScanFault) → IsMark m → bytes ≡ mark_bytes m ++ x → IsFaultOf bytes fault → ⊥
-no_fault bytes m x Cut g e h = cut_no_mark bytes m x h g e
-no_fault bytes m x (BadAt at) g e h = bad_no_mark bytes at m x h g e
+pub no_fault : (at : ℕ) (bytes : List ℕ) (m : Mark) (x : List ℕ) (fault : SqdFault) → IsMark m → bytes ≡ mark_bytes m ++ x → IsFaultOf at bytes fault → ⊥
+no_fault at bytes m x (NotClosed k) g e h = cut_no_mark bytes m x h.1 g e
+no_fault at bytes m x (BadMark k) g e h = bad_no_mark bytes h.0 m x h.2 g e
+no_fault at bytes m x _ g e h = absurd h
 
 -- bytes that end inside a mark are a front of one, and so are those before
 cut_front : (bytes front more : List ℕ) (bad : ℕ) → IsCut bytes → bytes ≡ (front ++ bad ∷ []) ++ more → IsFront (front ++ bad ∷ [])
@@ -122,12 +123,15 @@ not_later bytes i j h g = elim (ends_or_takes h.front h.more g.front (g.bad ∷ 
 ]
 
 -- bytes have one fault of a mark
-pub one_fault : (bytes : List ℕ) (f g : ScanFault) → IsFaultOf bytes f → IsFaultOf bytes g → f ≡ g
-one_fault bytes Cut Cut h k = refl
-one_fault bytes Cut (BadAt j) h k = absurd (cut_not_bad bytes j h k)
-one_fault bytes (BadAt i) Cut h k = absurd (cut_not_bad bytes i k h)
-one_fault bytes (BadAt i) (BadAt j) h k =
-    let first = not_later bytes i j h k in
-    let second = not_later bytes j i k h in
-    let same : i ≡ j = omega (arith, first, second) in
-    ap BadAt same
+pub one_fault : (at : ℕ) (bytes : List ℕ) (f g : SqdFault) → IsFaultOf at bytes f → IsFaultOf at bytes g → f ≡ g
+one_fault at bytes (NotClosed a) (NotClosed b) h k = ap NotClosed (h.0 ∙ sym k.0)
+one_fault at bytes (NotClosed a) (BadMark b) h k = absurd (cut_not_bad bytes k.0 h.1 k.2)
+one_fault at bytes (BadMark a) (NotClosed b) h k = absurd (cut_not_bad bytes h.0 k.1 h.2)
+one_fault at bytes (BadMark a) (BadMark b) h k =
+    let first = not_later bytes h.0 k.0 h.2 k.2 in
+    let second = not_later bytes k.0 h.0 k.2 h.2 in
+    let same : a ≡ b = omega (arith, first, second, h.1, k.1) in
+    ap BadMark same
+one_fault at bytes (NotClosed a) g h k = absurd k
+one_fault at bytes (BadMark a) g h k = absurd k
+one_fault at bytes f g h k = absurd h

@@ -1,9 +1,9 @@
 -- What bytes begin with: a mark, a part of one, or a part and a byte that continues none.
-use Rattle.std.specs.Prelude.{◌≡◌, ℕ, List, [], ◌∷◌, ◌++◌, length}
+use Rattle.std.specs.Prelude.{◌≡◌, ℕ, ◌+◌, List, [], ◌∷◌, ◌++◌, length}
 use Rattle.sqd_marks.specs.Marks.{Mark, IsMark, mark_bytes, kind_of}
 use Rattle.sqd_marks.specs.declared.kind.Kind.{Kind}
-use Rattle.sqd_scan.specs.declared.mark_scan.ScanFault.{ScanFault}
-use Rattle.sqd_scan.specs.declared.mark_scan.ScanFault.TheVariants.{Cut, BadAt}
+use Rattle.sqd_scan.specs.declared.fault.SqdFault.{SqdFault}
+use Rattle.sqd_scan.specs.declared.fault.SqdFault.TheVariants.{BadMark, NotClosed}
 
 -- the bytes are one mark, of this form
 pub record IsOf (kind : Kind) (bytes : List ℕ) : Type 0 where
@@ -44,7 +44,8 @@ pub record IsBadAt (bytes : List ℕ) (at : ℕ) : Type 0 where
   pub good : IsCut front
   pub wrong : IsFront (front ++ bad ∷ []) → ⊥
 
--- why the bytes begin with no mark
-abbrev pub IsFaultOf : List ℕ → ScanFault → Type 0
-IsFaultOf bytes Cut = IsCut bytes
-IsFaultOf bytes (BadAt at) = IsBadAt bytes at
+-- why the bytes from this place of a text on begin with no mark
+abbrev pub IsFaultOf : ℕ → List ℕ → SqdFault → Type 0
+IsFaultOf at bytes (NotClosed k) = (k ≡ at) × IsCut bytes
+IsFaultOf at bytes (BadMark k) = (j : ℕ) × (k ≡ at + j) × IsBadAt bytes j
+IsFaultOf at bytes _ = ⊥

@@ -2,7 +2,7 @@
 ghost use Rattle.std.specs.Prelude.{◌≡◌, ◌⊎◌, ℕ, List, ◌++◌};
 ghost use Rattle.sqd_marks.specs.Marks.{Mark, IsMark, mark_bytes};
 ghost use Rattle.sqd_scan.specs.Fronts.{HasMark, IsFaultOf};
-ghost use Rattle.sqd_scan.specs.declared.mark_scan.ScanFault.{ScanFault};
+ghost use Rattle.sqd_scan.specs.declared.fault.SqdFault.{SqdFault as FaultData};
 
 /// Bytes begin with one mark at most, each name, blank, quote and value of it; so no mark is the
 /// front of another.
@@ -16,17 +16,18 @@ pub fn one_mark()
 /// Bytes that begin with a mark don't end inside one, and no byte of theirs is the first that
 /// continues none.
 pub fn no_mark_fault()
-    ensures { (bytes : List ℕ) (m : Mark) (x : List ℕ) (fault : ScanFault)
-        → IsMark m → bytes ≡ mark_bytes m ++ x → IsFaultOf bytes fault → ⊥ }
+    ensures { (at : ℕ) (bytes : List ℕ) (m : Mark) (x : List ℕ) (fault : FaultData)
+        → IsMark m → bytes ≡ mark_bytes m ++ x → IsFaultOf at bytes fault → ⊥ }
 {}
 
 /// Bytes that begin with no mark have one reason for it.
 pub fn one_mark_fault()
-    ensures { (bytes : List ℕ) (f g : ScanFault)
-        → IsFaultOf bytes f → IsFaultOf bytes g → f ≡ g }
+    ensures { (at : ℕ) (bytes : List ℕ) (f g : FaultData)
+        → IsFaultOf at bytes f → IsFaultOf at bytes g → f ≡ g }
 {}
 
 /// All bytes begin with a mark, or have a reason for it that they begin with none.
 pub fn some_front()
-    ensures { (bytes : List ℕ) → HasMark bytes ⊎ ((f : ScanFault) × IsFaultOf bytes f) }
+    ensures { (at : ℕ) (bytes : List ℕ)
+        → HasMark bytes ⊎ ((f : FaultData) × IsFaultOf at bytes f) }
 {}

@@ -1,8 +1,10 @@
 //! The mark that bytes begin with, or why there is none.
 #![tactic(auto)]
 
+mod fault;
 pub mod laws;
 mod mark_scan;
 mod stage;
 
-pub use mark_scan::{ScanFault, Whole, scan};
+pub use fault::SqdFault;
+pub use mark_scan::{Whole, scan};

@@ -2,7 +2,7 @@
 use Rattle.std.proofs.Common.{◌≡◌, inl, inr, List, ℕ, length, arith}
 use Rattle.charge_model.specs.Problem.{Problem}
 use Rattle.charge_model.specs.GroundList.{Entry}
-use Rattle.sqd_layout.specs.declared.fault.SqdFault.TheVariants.{NotSiqad}
+use Rattle.sqd_layout.specs.SqdFault.TheVariants.{NotSiqad}
 use Rattle.command_words.specs.declared.settings.Settings.{Settings}
 use Rattle.fault_lines.specs.declared.input_fault.InputFault.TheVariants.{Layout, TooLong}
 use Rattle.certificate_model.specs.declared.token.Token.{Token}

@@ -5,8 +5,8 @@ use Rattle.charge_model.specs.Problem.{Problem}
 use Rattle.sidb_layout.specs.Layout.{Arrangement}
 use Rattle.model_params.specs.declared.params.Params.{Params}
 use Rattle.table_reading.specs.declared.fault.TableFault.{TableFault}
-use Rattle.sqd_layout.specs.declared.fault.SqdFault.{SqdFault}
-use Rattle.sqd_layout.specs.declared.fault.SqdFault.TheVariants.{Memory as NoMemoryForLayout}
+use Rattle.sqd_layout.specs.SqdFault.{SqdFault}
+use Rattle.sqd_layout.specs.SqdFault.TheVariants.{Memory as NoMemoryForLayout}
 use Rattle.command_words.specs.declared.settings.Settings.{Settings}
 use Rattle.command_words.specs.declared.settings.Form.{Form}
 use Rattle.command_words.specs.declared.settings.Form.TheVariants.{Sites as SitesForm, Sqd as SqdForm, Table as TableForm}

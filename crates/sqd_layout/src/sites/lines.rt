@@ -1,7 +1,7 @@
 // The lines of a text, or the first that is none.
 ghost use Rattle.std.specs.Prelude.{◌≡◌, ◌⊎◌, ◌+◌, ◌++◌, ◌∷◌, [], length, map, Some, IfOk, IfErr, OnOk};
 ghost use Rattle.std.specs.List.{list_any};
-ghost use Rattle.sqd_layout.specs.declared.fault.SqdFault.TheVariants.{Memory as OutOfMemory, BadLine as WrongLine};
+ghost use Rattle.sqd_scan.specs.declared.fault.SqdFault.TheVariants.{Memory as OutOfMemory, BadLine as WrongLine};
 ghost use Rattle.sqd_layout.specs.SitesLines.{line_in, lines_in, is_lattice as is_lattice_line};
 ghost use Rattle.sqd_layout.specs.SitesFaults.{AreFine, IsSitesFault};
 
@@ -61,10 +61,8 @@ fn push_line(alloc: Global, lines: &mut Vec<SitesLine>, bytes: &[u8]) -> Result<
         × (¬ AreFine (map Some lines.old.items ++ line_in bytes.now ∷ [])))) }
 {
     let number = lines.len() as u64 + 1;
-    match checked_line(alloc, lines, number, bytes) {
-        Ok(found) => lines.push(found)?,
-        Err(fault) => return Err(fault),
-    }
+    let line = checked_line(alloc, lines, number, bytes)?;
+    lines.push(line)?;
     Ok(())
 }
 
@@ -77,14 +75,9 @@ pub fn read_lines(alloc: Global, text: &[u8]) -> Result<Vec<SitesLine>, SqdFault
     let mut lines = Vec::new(alloc);
     let mut rest = text;
     while let Some((line, behind)) = cut(rest, b'\n') {
-        match push_line(alloc, &mut lines, line) {
-            Ok(()) => {}
-            Err(fault) => return Err(fault),
-        }
+        push_line(alloc, &mut lines, line)?;
         rest = behind;
     }
-    match push_line(alloc, &mut lines, rest) {
-        Ok(()) => Ok(lines),
-        Err(fault) => Err(fault),
-    }
+    push_line(alloc, &mut lines, rest)?;
+    Ok(lines)
 }

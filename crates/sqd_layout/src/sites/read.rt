@@ -2,7 +2,7 @@
 ghost use Rattle.std.specs.Prelude.{◌≡◌, ◌⊎◌, length, MatchOption, IfOk, IfErr};
 ghost use Rattle.sidb_layout.specs.declared.fault.LayoutFault.{LayoutFault as LayoutRefusal};
 ghost use Rattle.sidb_layout.specs.Refusal.{IsMadeOf, IsRefusal};
-ghost use Rattle.sqd_layout.specs.declared.fault.SqdFault.TheVariants.{Memory as OutOfMemory};
+ghost use Rattle.sqd_scan.specs.declared.fault.SqdFault.TheVariants.{Memory as OutOfMemory};
 ghost use Rattle.sqd_layout.specs.SitesLines.{site_in, fix_in, sites_of, fixes_of};
 ghost use Rattle.sqd_layout.specs.SitesFaults.{AreLinesInRange, IsLatticeOf, IsClear, IsLinesFault, IsLayoutOf, IsSitesText, IsSitesFault};
 
@@ -124,12 +124,7 @@ pub fn read_sites(alloc: Global, text: &[u8]) -> Result<Found, SqdFault>
     ensures skipped { IfOk result (λ found. found.skipped ≡ 0) }
     ensures fault { IfErr result (λ fault. (fault ≡ OutOfMemory) ⊎ IsSitesFault text.now fault) }
 {
-    let lines = match read_lines(alloc, text) {
-        Ok(lines) => lines,
-        Err(fault) => return Err(fault),
-    };
-    match layout_of_lines(alloc, &lines) {
-        Ok(layout) => Ok(Found { layout, skipped: 0 }),
-        Err(fault) => Err(fault),
-    }
+    let lines = read_lines(alloc, text)?;
+    let layout = layout_of_lines(alloc, &lines)?;
+    Ok(Found { layout, skipped: 0 })
 }

@@ -1,10 +1,10 @@
-use Rattle.std.proofs.Common.{◌∙◌, sym}
+use Rattle.std.proofs.Common.{◌∙◌, refl, sym}
 use Rattle.sqd_scan.proofs.Fronts.{run_more, bad_at, whole_at, cut_at}
 use Rattle.sqd_scan.proofs.mark_scan.scan.Goals as goal
 
 pub returns-in_default-clause-fault : goal.returns-in_default-clause-fault
 returns-in_default-clause-fault c =
-    bad_at c.args.bytes.now c.loop-i.i c.loop-i.stage c.loop-i-test.true c.loop-i.invariant.so_far c.loop-i.invariant.open_still (sym c.step.ensures ∙ c.in_default.is)
+    (c.loop-i.i, refl, bad_at c.args.bytes.now c.loop-i.i c.loop-i.stage c.loop-i-test.true c.loop-i.invariant.so_far c.loop-i.invariant.open_still (sym c.step.ensures ∙ c.in_default.is))
 
 pub returns-in-Some-kind_done-clause-whole : goal.returns-in-Some-kind_done-clause-whole
 returns-in-Some-kind_done-clause-whole c =
@@ -18,4 +18,4 @@ loop-i-preserved c = record {
 }
 
 pub returns-clause-fault : goal.returns-clause-fault
-returns-clause-fault c = cut_at c.args.bytes.now c.loop-i.i c.loop-i.stage c.loop-i-test.false c.loop-i.invariant.so_far c.loop-i.invariant.open_still
+returns-clause-fault c = (refl, cut_at c.args.bytes.now c.loop-i.i c.loop-i.stage c.loop-i-test.false c.loop-i.invariant.so_far c.loop-i.invariant.open_still)

@@ -1,5 +1,5 @@
 ghost use Rattle.std.specs.Prelude.{◌≡◌};
-ghost use Rattle.sqd_layout.specs.declared.fault.SqdFault.TheVariants.{Memory as OutOfMemory};
+ghost use Rattle.sqd_scan.specs.declared.fault.SqdFault.TheVariants.{Memory as OutOfMemory};
 
 use sidb_units::Memory;
 use std::alloc::{AllocError, AllocFailed};
