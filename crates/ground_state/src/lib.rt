@@ -2,6 +2,7 @@
 //! pruned search.
 #![tactic(auto)]
 
+mod effort;
 mod keeping;
 pub mod laws;
 mod reach;

@@ -9,11 +9,11 @@ ghost use Rattle.tree_leaves.specs.Answer.{IsListed};
 ghost use Rattle.ground_state.specs.Answer.{IsSolved, IfListed};
 ghost use Rattle.ground_state.specs.Window.{IsReach, IsWindowSolved, IsWindowTooLong};
 
+use crate::effort::{checked_nodes, leaves_by};
 use crate::keeping::contenders;
 use crate::reach::{Reach, reach_of};
 use branch_search::{Bound, least_bound};
 use candidate_marks::window_list_of;
-use checked_walk::walk_checked;
 use ground_entries::{GroundList, Solved};
 use ground_list_laws::laws::{
     certain_entries_are_ground_states, ground_states_are_listed, unresolved_entries_fail,
@@ -25,7 +25,7 @@ use sidb_units::{MAX_ENTRIES, MAX_NODES, MAX_WORKERS, Memory};
 use std::alloc::Global;
 use std::thread::Threads;
 use tree_leaves::laws::{higher_thresholds_have_no_fewer_nodes, nodes_count_their_children};
-use tree_leaves::{LeafList, LeavesAnswer, leaves};
+use tree_leaves::{LeafList, LeavesAnswer};
 use window_laws::laws::{
     certain_entries_are_near_the_ground, marks_at_zero_are_ground_marks, near_lists_are_listed,
     unresolved_entries_fail_within, window_lists_at_zero_are_ground_lists,
@@ -78,12 +78,15 @@ fn window_list_in(
     window_list_of(alloc, problem, &reach.window, kept)
 }
 
-/// The answer where this is the list, once a checker has taken its certificate.
-fn checked(
+/// The answer where this is the list of these leaves, once its certificate was checked.
+fn checked<R: Threads + Sync>(
+    rt: &R,
     alloc: Global,
     problem: &Problem,
     reach: &Reach,
     _limit: u64,
+    workers: u64,
+    leaves: &LeafList,
     list: GroundList,
 ) -> SolveAnswer
     requires reach { IsReach problem.now reach.now }
@@ -92,7 +95,7 @@ fn checked(
     requires limit { _limit ≤ MAX_NODES }
     ensures { IsWindowSolved problem.now reach.now.window.width _limit result }
 {
-    match walk_checked(alloc, problem, reach.window, reach.bound, &list) {
+    match checked_nodes(rt, alloc, problem, reach, workers, leaves.nodes(), &list) {
         Err(Memory) => SolveAnswer::Memory,
         Ok(nodes) => SolveAnswer::List(Solved {
             list,
@@ -103,11 +106,13 @@ fn checked(
 }
 
 /// The answer where the tree up to the end of the window has these leaves.
-fn solved(
+fn solved<R: Threads + Sync>(
+    rt: &R,
     alloc: Global,
     problem: &Problem,
     reach: &Reach,
     limit: u64,
+    workers: u64,
     leaves: &LeafList,
 ) -> SolveAnswer
     requires reach { IsReach problem.now reach.now }
@@ -118,25 +123,27 @@ fn solved(
     match window_list_in(alloc, problem, reach, leaves) {
         Err(Memory) => SolveAnswer::Memory,
         Ok(None) => SolveAnswer::ListTooLong,
-        Ok(Some(list)) => checked(alloc, problem, reach, limit, list),
+        Ok(Some(list)) => checked(rt, alloc, problem, reach, limit, workers, leaves, list),
     }
 }
 
 /// The answer where this is the least certain energy.
-fn solve_under(
+fn solve_under<R: Threads + Sync>(
+    rt: &R,
     alloc: Global,
     problem: &Problem,
     window: &Window,
     bound: Option<i64>,
     limit: u64,
+    workers: u64,
 ) -> SolveAnswer
     requires bound { IsLeastCertain problem.now bound }
     requires limit { (1 ≤ limit) × (limit ≤ MAX_NODES) }
     ensures { IsWindowSolved problem.now window.now.width limit result }
 {
     let reach = reach_of(problem, bound, window);
-    match leaves(alloc, problem, reach.end, limit) {
-        LeavesAnswer::Lists(list) => solved(alloc, problem, &reach, limit, &list),
+    match leaves_by(rt, alloc, problem, &reach, limit, workers) {
+        LeavesAnswer::Lists(list) => solved(rt, alloc, problem, &reach, limit, workers, &list),
         LeavesAnswer::Budget => SolveAnswer::Budget,
         LeavesAnswer::Memory => SolveAnswer::Memory,
     }
@@ -159,8 +166,10 @@ fn searched_within<R: Threads + Sync, G: Gate>(
     higher_thresholds_have_no_fewer_nodes();
     nodes_count_their_children();
     match least_bound(rt, alloc, problem, limit, workers, gate) {
-        Bound::Found(bound) => solve_under(alloc, problem, window, Some(bound), limit),
-        Bound::NoneCertain => solve_under(alloc, problem, window, None, limit),
+        Bound::Found(bound) => {
+            solve_under(rt, alloc, problem, window, Some(bound), limit, workers)
+        }
+        Bound::NoneCertain => solve_under(rt, alloc, problem, window, None, limit, workers),
         Bound::Budget => SolveAnswer::Budget,
         Bound::Memory => SolveAnswer::Memory,
     }
