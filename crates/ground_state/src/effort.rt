@@ -20,12 +20,6 @@ use tree_leaves::{LeavesAnswer, leaves};
 /// How many prefixes of a tree are not worth more than one thread.
 const FEW_NODES: u64 = 20_000;
 
-/// Whether the search has found that the tree keeps the limit: it looks at the tree under the least
-/// certain energy alone.
-fn is_counted(reach: &Reach) -> bool {
-    reach.window.width == 0 && reach.bound.is_some()
-}
-
 /// The leaves of the tree, where a first look entered few prefixes of many.
 fn many_leaves<R: Threads + Sync>(
     rt: &R,
@@ -38,7 +32,7 @@ fn many_leaves<R: Threads + Sync>(
     requires limit { (1 ≤ limit) × (limit ≤ MAX_NODES) }
     ensures { IsLeavesAnswer problem.now reach.now.end limit result }
 {
-    if workers > 1 && is_counted(reach) {
+    if workers > 1 {
         leaves_shared(rt, alloc, problem, reach.end, limit)
     } else {
         leaves(alloc, problem, reach.end, limit)
@@ -46,7 +40,7 @@ fn many_leaves<R: Threads + Sync>(
 }
 
 /// The leaves of the tree up to the end of the window, side by side where there are several workers
-/// and the tree is large and known to keep the limit.
+/// and the tree is large.
 pub fn leaves_by<R: Threads + Sync>(
     rt: &R,
     alloc: Global,
