@@ -1,6 +1,6 @@
 //! The thresholds between which the answer of a search lies, and what a round leaves of them.
 ghost use Rattle.std.specs.Prelude.{◌≡◌, ◌<◌, ◌≤◌, ◌^◌, pos, negsuc, ◌+ℤ◌, ◌<ℤ◌, unsigned_abs, IsTrue, MatchBool};
-ghost use Rattle.branch_search.specs.Bounds.{IsPassed};
+ghost use Rattle.branch_search.specs.Bounds.{IsThresholdPassed};
 
 use crate::halving::{Bound, GREATEST_ENERGY};
 
@@ -75,7 +75,7 @@ pub fn is_inside(range: &Range, threshold: i64) -> bool
 /// What is left where no certainly valid list lies up to a threshold inside a range and so many
 /// prefixes of the tree under it were entered.
 pub fn passed(range: &Range, threshold: i64, limit: u64, entered: u64) -> Tried
-    ensures { IsPassed range.now threshold limit entered result }
+    ensures { IsThresholdPassed range.now threshold limit entered result }
 {
     if entered > limit {
         Tried::Over(Bound::Budget)

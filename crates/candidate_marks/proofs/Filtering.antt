@@ -8,7 +8,7 @@ use Rattle.std.proofs.lemmas.List.Elements.{All-push}
 use Rattle.charge_model.specs.Problem.{Problem}
 use Rattle.charge_model.specs.GroundList.{entry_at}
 use Rattle.candidate_marks.specs.declared.candidate.Candidate.{Candidate}
-use Rattle.candidate_marks.specs.Candidates.{IsWeighed, AreContenders, AreVerdicts, IsBeaten, BeatsNone, charges_of}
+use Rattle.candidate_marks.specs.Candidates.{IsWeighed, AreContenders, AreVerdicts, IsBeaten, BeatsNone, lists_of_candidates}
 use Rattle.candidate_marks.proofs.Keeping.{Kept}
 use Rattle.candidate_marks.proofs.CandidateLemmas.{charges_at, weighed_at, unbeaten_at, kept_entry, skipped_entry}
 
@@ -19,7 +19,7 @@ nothing_left (x ∷ xs) h = absurd (omega arith)
 
 -- of the first candidates, those that are not beaten have been kept
 pub record GoneTo (p : Problem) (window : ℤ) (xs : List Candidate) (i : ℕ) (l : List Candidate) : Type 0 where
-  pub kept : Kept p window (charges_of xs) i (charges_of l)
+  pub kept : Kept p window (lists_of_candidates xs) i (lists_of_candidates l)
   pub weighed : All (IsWeighed p) l
 
 -- the candidate behind those before it stands in its place
@@ -32,7 +32,7 @@ inside xs ys zs x k parts place =
 
 -- one more candidate, kept or left out by its verdict
 pub gone_on : (p : Problem) (window : ℤ) (xs ys zs : List Candidate) (bs : List Bool) (x : Candidate) (k : ℕ) (l new : List Candidate) → AreContenders p window xs
-    → AreVerdicts p window (charges_of xs) bs → ys ++ x ∷ zs ≡ xs → k ≡ length ys → GoneTo p window xs k l
+    → AreVerdicts p window (lists_of_candidates xs) bs → ys ++ x ∷ zs ≡ xs → k ≡ length ys → GoneTo p window xs k l
     → (slice_index_or bs k false ≡ true → new ≡ l) → (slice_index_or bs k false ≡ false → new ≡ l ++ x ∷ []) → GoneTo p window xs (k + 1) new
 gone_on p window xs ys zs bs x k l new all verdicts parts place gone beaten put = by (slice_index_or bs k false) refl
   where
@@ -59,23 +59,23 @@ gone_on p window xs ys zs bs x k l new all verdicts parts place gone beaten put 
 -- for each of the first candidates whether some list beats it
 pub record DecidedTo (p : Problem) (window : ℤ) (xs : List Candidate) (i : ℕ) (bs : List Bool) : Type 0 where
   pub same : length bs ≡ i
-  pub each : (k : ℕ) → k < i → MatchBool (slice_index_or bs k false) (IsBeaten p window (entry_at (charges_of xs) k)) (IsBeaten p window (entry_at (charges_of xs) k) → ⊥)
+  pub each : (k : ℕ) → k < i → MatchBool (slice_index_or bs k false) (IsBeaten p window (entry_at (lists_of_candidates xs) k)) (IsBeaten p window (entry_at (lists_of_candidates xs) k) → ⊥)
 
 pub decided_none : (p : Problem) (window : ℤ) (xs : List Candidate) → DecidedTo p window xs 0 []
 decided_none p window xs = record { same = refl; each = λ k lt. absurd (omega (arith, lt)) }
 
 -- one more
 pub decided_more : (p : Problem) (window : ℤ) (xs : List Candidate) (i : ℕ) (bs : List Bool) (x : Candidate) (b : Bool) → AreContenders p window xs → DecidedTo p window xs i bs
-    → i < length xs → x ≡ get_or xs i x → MatchBool b (IsBeaten p window x.charges) (BeatsNone p window (charges_of xs) x.charges) → DecidedTo p window xs (i + 1) (bs ++ b ∷ [])
+    → i < length xs → x ≡ get_or xs i x → MatchBool b (IsBeaten p window x.charges) (BeatsNone p window (lists_of_candidates xs) x.charges) → DecidedTo p window xs (i + 1) (bs ++ b ∷ [])
 decided_more p window xs i bs x b all old lt is found = record {
   same = length_push bs b ∙ ap (λ n. n + 1) old.same;
   each = λ k h. at k h (cases_eq k i);
 }
   where
     Verdict : Bool → ℕ → Type 0
-    Verdict v k = MatchBool v (IsBeaten p window (entry_at (charges_of xs) k)) (IsBeaten p window (entry_at (charges_of xs) k) → ⊥)
+    Verdict v k = MatchBool v (IsBeaten p window (entry_at (lists_of_candidates xs) k)) (IsBeaten p window (entry_at (lists_of_candidates xs) k) → ⊥)
 
-    judged : (v : Bool) → MatchBool v (IsBeaten p window x.charges) (BeatsNone p window (charges_of xs) x.charges) → MatchBool v (IsBeaten p window x.charges) (IsBeaten p window x.charges → ⊥)
+    judged : (v : Bool) → MatchBool v (IsBeaten p window x.charges) (BeatsNone p window (lists_of_candidates xs) x.charges) → MatchBool v (IsBeaten p window x.charges) (IsBeaten p window x.charges → ⊥)
     judged true h = h
     judged false h = unbeaten_at p window xs i x all lt is h
 
@@ -87,7 +87,7 @@ decided_more p window xs i bs x b all old lt is found = record {
     at k h (inr ne) = subst (λ v. Verdict v k) (sym (get_or_append_left bs (b ∷ []) false k (let same = old.same in omega (arith, same, h, ne)))) (old.each k (omega (arith, h, ne)))
 
 -- all of them
-pub decided_all : (p : Problem) (window : ℤ) (xs : List Candidate) (i : ℕ) (bs : List Bool) → DecidedTo p window xs i bs → i ≡ length xs → AreVerdicts p window (charges_of xs) bs
+pub decided_all : (p : Problem) (window : ℤ) (xs : List Candidate) (i : ℕ) (bs : List Bool) → DecidedTo p window xs i bs → i ≡ length xs → AreVerdicts p window (lists_of_candidates xs) bs
 decided_all p window xs i bs old whole = let many = length-map xs (λ y. y.charges) in record {
   same = old.same ∙ whole ∙ sym many;
   each = λ k lt. old.each k (omega (arith, lt, whole, many));

@@ -3,7 +3,7 @@ ghost use Rattle.charge_model.specs.Rules.{IsCertainlyValid};
 ghost use Rattle.charge_model.specs.GroundList.{lists_of};
 ghost use Rattle.window_model.specs.Windows.{IsDecidingWithin, IsMarkWithin};
 ghost use Rattle.ground_entries.specs.Seen.{seen};
-ghost use Rattle.candidate_marks.specs.Candidates.{IsWeighed, IsLowest, IsNotAbove, AreNotAbove, IsSometimesLower, charges_of};
+ghost use Rattle.candidate_marks.specs.Candidates.{IsWeighed, IsLowest, IsNotAbove, AreNotAbove, IsSometimesLower, lists_of_candidates};
 
 use crate::candidate::{Candidate, gap_span};
 use crate::ends::{begins_below_end, begins_below_zero};
@@ -61,8 +61,9 @@ fn first_rival(
     requires candidate { IsWeighed problem.now candidate.now }
     requires valid { IsCertainlyValid problem.now candidate.now.charges }
     ensures { IfOk result (λ o. MatchOption o
-        (AreNotAbove problem.now window.now.width candidate.now.charges (charges_of list.now))
-        (IsDecidingWithin problem.now window.now.width (charges_of list.now)
+        (AreNotAbove problem.now window.now.width candidate.now.charges
+        (lists_of_candidates list.now))
+        (IsDecidingWithin problem.now window.now.width (lists_of_candidates list.now)
         candidate.now.charges)) }
 {
     if !begins_below_end(&lowest.span, window, &candidate.span) {
@@ -90,7 +91,8 @@ fn mark_of(
     requires lowest { IsLowest problem.now list.now lowest.now }
     requires candidate { IsWeighed problem.now candidate.now }
     ensures { IfOk result
-        (IsMarkWithin problem.now window.now.width (charges_of list.now) candidate.now.charges) }
+        (IsMarkWithin problem.now window.now.width
+        (lists_of_candidates list.now) candidate.now.charges) }
 {
     match candidate.own {
         Mark::Unresolved(deciding) => Ok(Mark::Unresolved(deciding)),
@@ -109,9 +111,11 @@ pub fn entries_of(
     list: &[Candidate],
 ) -> Result<Vec<Entry>, Memory>
     requires { All (IsWeighed problem.now) list.now }
-    ensures charges { IfOk result (λ v. lists_of (map seen v.items) ≡ charges_of list.now) }
+    ensures charges { IfOk result (λ v. lists_of (map seen v.items)
+        ≡ lists_of_candidates list.now) }
     ensures marks { IfOk result (λ v.
-        All (λ e. IsMarkWithin problem.now window.now.width (charges_of list.now) e.charges e.mark)
+        All (λ e. IsMarkWithin problem.now window.now.width
+        (lists_of_candidates list.now) e.charges e.mark)
         (map seen v.items)) }
 {
     let mut entries = Vec::new(alloc);

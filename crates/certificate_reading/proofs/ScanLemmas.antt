@@ -12,17 +12,17 @@ use Rattle.table_reading.proofs.FrontLemmas.{some_row}
 use Rattle.table_reading.specs.declared.fault.LineWhy.{LineWhy}
 use Rattle.table_reading.specs.declared.fault.LineWhy.TheVariants.{Form}
 use Rattle.certificate_lines.specs.declared.line.CertLine.{CertLine}
-use Rattle.certificate_lines.specs.Lines.{words_of, entry_line}
-use Rattle.certificate_reading.specs.declared.counts.Part.{Part}
-use Rattle.certificate_reading.specs.declared.counts.Part.TheVariants as part
+use Rattle.certificate_lines.specs.Lines.{certificate_line_words, entry_line}
+use Rattle.certificate_reading.specs.declared.counts.TextPart.{TextPart}
+use Rattle.certificate_reading.specs.declared.counts.TextPart.TheVariants as part
 use Rattle.certificate_reading.specs.declared.counts.Counts.{Counts}
 use Rattle.certificate_reading.specs.declared.scanned.Scanned.{Scanned}
-use Rattle.certificate_reading.specs.Counts.{no_counts, counts_after, counts_of, is_ended, is_last}
-use Rattle.certificate_reading.specs.Order.{may_follow, may_follow_part}
+use Rattle.certificate_reading.specs.Counts.{no_counts, counts_after, counts_of, is_certificate_ended, is_last_part}
+use Rattle.certificate_reading.specs.Order.{may_follow_counts, may_follow_part}
 use Rattle.certificate_model.specs.declared.token.Token.{Token as Closing}
 use Rattle.certificate_reading.specs.Texts.{token_part}
-use Rattle.certificate_reading.specs.Ranges.{AreInRange}
-use Rattle.certificate_reading.specs.Body.{IsFineAt, IsBodyFault, IsFaultAt, IsWrongRow}
+use Rattle.certificate_reading.specs.Ranges.{AreCountsInRange}
+use Rattle.certificate_reading.specs.Body.{IsFineCertificateLine, IsBodyFault, IsCertificateRowFault, IsWrongCertificateRow}
 use Rattle.certificate_reading.specs.Scanning.{StandsBehind, IsReadTo, IsScannedTo, IsScanned, Takes}
 use Rattle.certificate_reading.proofs.FineLemmas.{in_range, front_rows, fine_rows, many_lines}
 use Rattle.certificate_reading.proofs.StepLemmas.{read_more}
@@ -51,7 +51,7 @@ begin p first text s counts entries start = record {
 }
 
 -- one more line is read
-pub more : (p : Problem) (first : ℕ) (text rest line behind : List ℕ) (old new : Scanned) (number : ℕ) (l : CertLine) → IsScannedTo p first text rest old number → rest ≡ line ++ 10 ∷ behind → words line ≡ words_of l → IsFineAt p old.counts l
+pub more : (p : Problem) (first : ℕ) (text rest line behind : List ℕ) (old new : Scanned) (number : ℕ) (l : CertLine) → IsScannedTo p first text rest old number → rest ≡ line ++ 10 ∷ behind → words line ≡ certificate_line_words l → IsFineCertificateLine p old.counts l
     → Takes old new (length text - length behind) l → IsScannedTo p first text behind new (number + 1)
 more p first text rest line behind old new number l at bytes row fine takes =
     let read = read_more p text rest line behind old.counts _ (map seen new.entries.items) at.tokens old.start at.lines l at.read (record { bytes = bytes; row = row; fine = fine }) takes.entries in
@@ -63,57 +63,57 @@ more p first text rest line behind old new number l at bytes row fine takes =
           (subst (λ n. IsReadTo p text behind (counts_after old.counts l) (map seen new.entries.items) read.0 n (at.lines ++ l ∷ [])) (sym takes.start) read.1);
     }
 
-pub ranges : (p : Problem) (first : ℕ) (text rest : List ℕ) (s : Scanned) (number : ℕ) → IsScannedTo p first text rest s number → AreInRange s.counts
-ranges p first text rest s number at = subst AreInRange (sym at.read.counted) (in_range p at.lines at.read.fine)
+pub ranges : (p : Problem) (first : ℕ) (text rest : List ℕ) (s : Scanned) (number : ℕ) → IsScannedTo p first text rest s number → AreCountsInRange s.counts
+ranges p first text rest s number at = subst AreCountsInRange (sym at.read.counted) (in_range p at.lines at.read.fine)
 
 -- the next number fits
 pub few : (p : Problem) (first : ℕ) (text rest : List ℕ) (s : Scanned) (number : ℕ) → IsScannedTo p first text rest s number → number + length rest ≤ first + length text
-few p first text rest s number at = omega (arith, at.numbered, many_lines text rest (map words_of at.lines) at.read.whole, length-map at.lines words_of)
+few p first text rest s number at = omega (arith, at.numbered, many_lines text rest (map certificate_line_words at.lines) at.read.whole, length-map at.lines certificate_line_words)
 
 -- there is no line feed
-pub no_feed : (p : Problem) (first : ℕ) (text rest : List ℕ) (s : Scanned) (number : ℕ) → IsScannedTo p first text rest s number → lines rest ≡ rest ∷ [] → is_ended s.counts ≡ false → IsBodyFault p first text number Form
+pub no_feed : (p : Problem) (first : ℕ) (text rest : List ℕ) (s : Scanned) (number : ℕ) → IsScannedTo p first text rest s number → lines rest ≡ rest ∷ [] → is_certificate_ended s.counts ≡ false → IsBodyFault p first text number Form
 no_feed p first text rest s number at last open' = record {
   before = at.lines;
   row = words rest;
   rest = [];
-  rows_are = front_rows p text rest at.lines at.read.whole at.read.fine ∙ ap (λ r. map words_of at.lines ++ map words r) last;
+  rows_are = front_rows p text rest at.lines at.read.whole at.read.fine ∙ ap (λ r. map certificate_line_words at.lines ++ map words r) last;
   fine = at.read.fine;
   numbered = at.numbered;
-  wrong = (refl, λ ended row. let no : is_ended s.counts ≡ true = ap is_ended at.read.counted ∙ ended in absurd (cc (no, open')));
+  wrong = (refl, λ ended row. let no : is_certificate_ended s.counts ≡ true = ap is_certificate_ended at.read.counted ∙ ended in absurd (cc (no, open')));
 }
 
 -- the row is wrong
-pub wrong_row : (p : Problem) (first : ℕ) (text rest line behind : List ℕ) (s : Scanned) (number : ℕ) (why : LineWhy) → IsScannedTo p first text rest s number → lines rest ≡ line ∷ lines behind → IsWrongRow p s.counts (words line) why → IsBodyFault p first text number why
+pub wrong_row : (p : Problem) (first : ℕ) (text rest line behind : List ℕ) (s : Scanned) (number : ℕ) (why : LineWhy) → IsScannedTo p first text rest s number → lines rest ≡ line ∷ lines behind → IsWrongCertificateRow p s.counts (words line) why → IsBodyFault p first text number why
 wrong_row p first text rest line behind s number why at cut wrong =
     let next = some_row behind in
     record {
       before = at.lines;
       row = words line;
       rest = next.0 ∷ next.1;
-      rows_are = front_rows p text rest at.lines at.read.whole at.read.fine ∙ ap (λ r. map words_of at.lines ++ r) (ap (map words) cut ∙ ap (λ r. words line ∷ r) next.2);
+      rows_are = front_rows p text rest at.lines at.read.whole at.read.fine ∙ ap (λ r. map certificate_line_words at.lines ++ r) (ap (map words) cut ∙ ap (λ r. words line ∷ r) next.2);
       fine = at.read.fine;
       numbered = at.numbered;
-      wrong = subst (λ c. IsWrongRow p c (words line) why) at.read.counted wrong;
+      wrong = subst (λ c. IsWrongCertificateRow p c (words line) why) at.read.counted wrong;
     }
 
 -- nothing may follow the line `end`
-pub after_end : (p : Problem) (c : Counts) (l : CertLine) → is_ended c ≡ true → may_follow p c l ≡ false
+pub after_end : (p : Problem) (c : Counts) (l : CertLine) → is_certificate_ended c ≡ true → may_follow_counts p c l ≡ false
 after_end p c l ended = by c.part ended
   where
-    by : (q : Part) → is_last q ≡ true → may_follow_part p c q l ≡ false
+    by : (q : TextPart) → is_last_part q ≡ true → may_follow_part p c q l ≡ false
     by part.Start h = absurd (cc (h))
     by part.Entries h = absurd (cc (h))
     by part.Tokens h = absurd (cc (h))
     by part.End h = refl
 
 -- there are bytes behind the line `end`
-pub bytes_behind : (p : Problem) (first : ℕ) (text rest : List ℕ) (s : Scanned) (number : ℕ) → IsScannedTo p first text rest s number → is_ended s.counts ≡ true → (rest ≡ [] → ⊥) → IsBodyFault p first text number Form
+pub bytes_behind : (p : Problem) (first : ℕ) (text rest : List ℕ) (s : Scanned) (number : ℕ) → IsScannedTo p first text rest s number → is_certificate_ended s.counts ≡ true → (rest ≡ [] → ⊥) → IsBodyFault p first text number Form
 bytes_behind p first text rest s number at ended some = by (some_row rest).0 (some_row rest).1 (some_row rest).2
   where
-    done : is_ended (counts_of at.lines) ≡ true
-    done = ap is_ended (sym at.read.counted) ∙ ended
+    done : is_certificate_ended (counts_of at.lines) ≡ true
+    done = ap is_certificate_ended (sym at.read.counted) ∙ ended
 
-    wrong : (row : List (List ℕ)) (more : List (List (List ℕ))) → rows rest ≡ row ∷ more → IsFaultAt p (counts_of at.lines) row more Form
+    wrong : (row : List (List ℕ)) (more : List (List (List ℕ))) → rows rest ≡ row ∷ more → IsCertificateRowFault p (counts_of at.lines) row more Form
     wrong row [] e = (refl, λ _ none. some (one_text rest [] (e ∙ ap (λ r. r ∷ []) none)))
     wrong row (next ∷ more) e = λ l short is. after_end p (counts_of at.lines) l done
 
@@ -122,16 +122,16 @@ bytes_behind p first text rest s number at ended some = by (some_row rest).0 (so
       before = at.lines;
       row = row;
       rest = more;
-      rows_are = front_rows p text rest at.lines at.read.whole at.read.fine ∙ ap (λ r. map words_of at.lines ++ r) e;
+      rows_are = front_rows p text rest at.lines at.read.whole at.read.fine ∙ ap (λ r. map certificate_line_words at.lines ++ r) e;
       fine = at.read.fine;
       numbered = at.numbered;
       wrong = wrong row more e;
     }
 
 -- the text is read to its end
-pub end : (p : Problem) (first : ℕ) (text rest : List ℕ) (s : Scanned) (number : ℕ) → IsScannedTo p first text rest s number → is_ended s.counts ≡ true → rest ≡ [] → IsScanned p text s
+pub end : (p : Problem) (first : ℕ) (text rest : List ℕ) (s : Scanned) (number : ℕ) → IsScannedTo p first text rest s number → is_certificate_ended s.counts ≡ true → rest ≡ [] → IsScanned p text s
 end p first text rest s number at ended none =
-    let all : text ≡ text_of (map words_of at.lines) = at.read.whole ∙ ap (λ r. text_of (map words_of at.lines) ++ r) none ∙ append-nil (text_of (map words_of at.lines)) in
+    let all : text ≡ text_of (map certificate_line_words at.lines) = at.read.whole ∙ ap (λ r. text_of (map certificate_line_words at.lines) ++ r) none ∙ append-nil (text_of (map certificate_line_words at.lines)) in
     let ranges = ranges p first text rest s number at in
     let count = at.read.entries in
     record {
@@ -139,9 +139,9 @@ end p first text rest s number at ended none =
       body = record {
         lines = at.lines;
         whole = record {
-          rows_are = ap rows all ∙ rows_back (map words_of at.lines) (fine_rows p no_counts at.lines at.read.fine);
+          rows_are = ap rows all ∙ rows_back (map certificate_line_words at.lines) (fine_rows p no_counts at.lines at.read.fine);
           fine = at.read.fine;
-          ended = ap is_ended (sym at.read.counted) ∙ ended;
+          ended = ap is_certificate_ended (sym at.read.counted) ∙ ended;
         };
         of = at.read.of;
       };
@@ -153,7 +153,7 @@ end p first text rest s number at ended none =
       few_entries = omega (arith, ints, ranges.entries, ranges.greatest, count, length-map s.entries.items seen);
     }
   where
-    last : (q : Part) → is_last q ≡ true → StandsBehind q text s.start at.tokens rest → drop s.start text ≡ token_bytes at.tokens ++ rest
+    last : (q : TextPart) → is_last_part q ≡ true → StandsBehind q text s.start at.tokens rest → drop s.start text ≡ token_bytes at.tokens ++ rest
     last part.Start h place = absurd (cc (h))
     last part.Entries h place = absurd (cc (h))
     last part.Tokens h place = absurd (cc (h))

@@ -21,16 +21,16 @@ use Rattle.certificate_lines.specs.declared.line.TokenLine.TheVariants as token
 use Rattle.certificate_lines.specs.declared.line.MarkLine.{MarkLine}
 use Rattle.certificate_lines.specs.declared.line.CertLine.{CertLine}
 use Rattle.certificate_lines.specs.declared.line.CertLine.TheVariants.{Entries, Entry, Tokens, Token, End}
-use Rattle.certificate_lines.specs.TokenRows.{token_line}
+use Rattle.certificate_lines.specs.TokenRows.{line_of_token}
 use Rattle.certificate_lines.specs.MarkRows.{mark_line}
-use Rattle.certificate_lines.specs.Lines.{words_of, entry_line}
-use Rattle.certificate_reading.specs.declared.counts.Part.{Part}
-use Rattle.certificate_reading.specs.declared.counts.Part.TheVariants as part
+use Rattle.certificate_lines.specs.Lines.{certificate_line_words, entry_line}
+use Rattle.certificate_reading.specs.declared.counts.TextPart.{TextPart}
+use Rattle.certificate_reading.specs.declared.counts.TextPart.TheVariants as part
 use Rattle.certificate_reading.specs.declared.counts.Counts.{Counts}
 use Rattle.certificate_reading.specs.Counts.{counts_after}
 use Rattle.certificate_reading.specs.Order.{is_entry, is_token}
 use Rattle.certificate_reading.specs.Ranges.{is_token_in_range, is_token_number, FitsLine}
-use Rattle.certificate_reading.specs.Body.{IsFineAt, token_lines}
+use Rattle.certificate_reading.specs.Body.{IsFineCertificateLine, token_lines}
 use Rattle.certificate_reading.specs.Scanning.{StandsBehind, IsReadTo, start_after}
 use Rattle.certificate_reading.proofs.RangeLemmas.{entries_first, entry_place, tokens_place, token_place}
 use Rattle.certificate_reading.proofs.FineLemmas.{counts_push, fine_more, front_more, behind_front}
@@ -46,7 +46,7 @@ entry_pushed old new cs m l mark is same push =
 
 -- the token of a line in range
 abbrev IsTokenOf : TokenLine → Type 0
-IsTokenOf t = (tok : Closing) × (token_line tok ≡ t)
+IsTokenOf t = (tok : Closing) × (line_of_token tok ≡ t)
 
 number_of : (z : ℤ) → is_token_number z ≡ true → pos (unsigned_abs z) ≡ z
 number_of z h =
@@ -71,8 +71,8 @@ token_of_line (token.Hop i j) h =
 -- a line that is read, behind those that were
 pub record IsLineRead (p : Problem) (c : Counts) (text rest line behind : List ℕ) (l : CertLine) : Type 0 where
   pub bytes : rest ≡ line ++ 10 ∷ behind
-  pub row : words line ≡ words_of l
-  pub fine : IsFineAt p c l
+  pub row : words line ≡ certificate_line_words l
+  pub fine : IsFineCertificateLine p c l
 
 -- what one more line adds to the entries and the tokens
 abbrev pub AddsEntries : List Marked → List Marked → CertLine → Type 0
@@ -85,13 +85,13 @@ pub record HasTokens (p : Problem) (c : Counts) (text behind : List ℕ) (start 
   pub fit : All FitsLine tokens
   pub place : StandsBehind (counts_after c l).part text (start_after start (length text - length behind) l) tokens behind
 
-moved : (q r : Part) (text rest : List ℕ) (start : ℕ) (ts : List Closing) → q ≡ r → StandsBehind q text start ts rest → StandsBehind r text start ts rest
+moved : (q r : TextPart) (text rest : List ℕ) (start : ℕ) (ts : List Closing) → q ≡ r → StandsBehind q text start ts rest → StandsBehind r text start ts rest
 moved q r text rest start ts e h = subst (λ x. StandsBehind x text start ts rest) e h
 
 same_tokens : (ts : List Closing) → token_lines ts ≡ token_lines ts ++ []
 same_tokens ts = sym (append-nil (token_lines ts))
 
-tokens_more : (p : Problem) (text rest line behind : List ℕ) (c : Counts) (ls : List CertLine) (start : ℕ) (ts : List Closing) (l : CertLine) → text ≡ text_of (map words_of ls) ++ rest
+tokens_more : (p : Problem) (text rest line behind : List ℕ) (c : Counts) (ls : List CertLine) (start : ℕ) (ts : List Closing) (l : CertLine) → text ≡ text_of (map certificate_line_words ls) ++ rest
     → c.tokens ≡ length ts → All FitsLine ts → StandsBehind c.part text start ts rest → IsLineRead p c text rest line behind l → HasTokens p c text behind start ts l
 tokens_more p text rest line behind c ls start ts (Entries n) whole count fit place read = record {
   tokens = ts;
@@ -114,18 +114,18 @@ tokens_more p text rest line behind c ls start ts Tokens whole count fit place r
       are = same_tokens ts;
       count = count;
       fit = fit;
-      place = behind_front text (text_of (map words_of (ls ++ Tokens ∷ []))) behind (front_more text rest line behind ls Tokens whole read.bytes read.row) ∙ ap (λ x. text_of (map words_of (token_lines x)) ++ behind) (sym none);
+      place = behind_front text (text_of (map certificate_line_words (ls ++ Tokens ∷ []))) behind (front_more text rest line behind ls Tokens whole read.bytes read.row) ∙ ap (λ x. text_of (map certificate_line_words (token_lines x)) ++ behind) (sym none);
     }
 tokens_more p text rest line behind c ls start ts (Token t) whole count fit place read =
     let of = token_of_line t (and_parts (is_token_in_range t) _ read.fine.in_range).0 in
     let at = moved c.part part.Tokens text rest start ts (token_place p c c.part (Token t) refl refl refl read.fine.follows) place in
-    let lines : token_lines (ts ++ of.0 ∷ []) ≡ token_lines ts ++ Token t ∷ [] = map-append (λ x. Token (token_line x)) ts (of.0 ∷ []) ∙ ap (λ x. token_lines ts ++ Token x ∷ []) of.1 in
+    let lines : token_lines (ts ++ of.0 ∷ []) ≡ token_lines ts ++ Token t ∷ [] = map-append (λ x. Token (line_of_token x)) ts (of.0 ∷ []) ∙ ap (λ x. token_lines ts ++ Token x ∷ []) of.1 in
     record {
       tokens = ts ++ of.0 ∷ [];
       are = lines;
       count = omega (arith, count, length-append ts (of.0 ∷ []));
       fit = All-push FitsLine ts of.0 fit (ap is_token_in_range of.1 ∙ (and_parts (is_token_in_range t) _ read.fine.in_range).0);
-      place = front_more (drop start text) rest line behind (token_lines ts) (Token t) at read.bytes read.row ∙ ap (λ x. text_of (map words_of x) ++ behind) (sym lines);
+      place = front_more (drop start text) rest line behind (token_lines ts) (Token t) at read.bytes read.row ∙ ap (λ x. text_of (map certificate_line_words x) ++ behind) (sym lines);
     }
 tokens_more p text rest line behind c ls start ts End whole count fit place read =
     let at = moved c.part part.Tokens text rest start ts (token_place p c c.part End refl refl refl read.fine.follows) place in
@@ -146,7 +146,7 @@ read_more p text rest line behind c es fs ts start ls l read line_read adds =
       more.tokens,
       record {
         whole = front_more text rest line behind ls l read.whole line_read.bytes line_read.row;
-        fine = fine_more p ls l read.fine (subst (λ x. IsFineAt p x l) read.counted line_read.fine);
+        fine = fine_more p ls l read.fine (subst (λ x. IsFineCertificateLine p x l) read.counted line_read.fine);
         counted = ap (λ x. counts_after x l) read.counted ∙ sym (counts_push ls l);
         of = record {
           entries = filter-append is_entry ls (l ∷ []) ∙ ap (λ x. x ++ filter is_entry (l ∷ [])) read.of.entries ∙ sym adds;

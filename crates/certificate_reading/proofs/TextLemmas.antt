@@ -7,20 +7,20 @@ use Rattle.charge_model.specs.Problem.{Problem}
 use Rattle.charge_model.specs.GroundList.{Entry as Marked}
 use Rattle.ground_entries.specs.Seen.{seen}
 use Rattle.text_rows.specs.Rows.{rows, lines, words, text_of}
-use Rattle.table_reading.specs.Lines.{words_of as table_words}
+use Rattle.table_reading.specs.Lines.{table_line_words as table_words}
 use Rattle.table_reading.specs.Reading.{IsTableText}
 use Rattle.certificate_reading.specs.declared.scanned.Scanned.{Scanned}
 use Rattle.certificate_reading.specs.declared.fault.CertText.{CertText}
 use Rattle.certificate_reading.specs.declared.fault.CertText.TheVariants.{Table, Line, Memory}
 use Rattle.certificate_reading.specs.Body.{IsBody, IsBodyFault}
 use Rattle.certificate_reading.specs.Scanning.{IsScanned, IsScanFault}
-use Rattle.certificate_reading.specs.Texts.{IsHeaded, BeginsWith, HasTableOf, IsCertFault, IsFront, head_words, table_head}
+use Rattle.certificate_reading.specs.Texts.{IsHeaded, BeginsWithLine, HasTableOf, IsCertFault, IsCertificateFront, head_words, table_head}
 use Rattle.certificate_reading.proofs.FineLemmas.{behind_front}
 
 -- the first line and the table were read, and this is behind them
 pub record IsTableRead (p : Problem) (text rest body : List ℕ) (second : Bool) (bytes many : ℕ) : Type 0 where
   pub head : IsHeaded second text rest
-  pub same : BeginsWith (table_words (table_head second)) rest
+  pub same : BeginsWithLine (table_words (table_head second)) rest
   pub of : IsTableText (take bytes rest) p
   pub within : bytes ≤ length rest
   pub count : length (rows (take bytes rest)) ≡ many + 1
@@ -55,7 +55,7 @@ table_part p text rest body second bytes many read =
     record {
       second = second;
       table = take bytes rest;
-      opened = record { head = subst (IsHeaded second text) whole read.head; same = subst (BeginsWith (table_words (table_head second))) whole read.same };
+      opened = record { head = subst (IsHeaded second text) whole read.head; same = subst (BeginsWithLine (table_words (table_head second))) whole read.same };
       of = read.of;
     }
 
@@ -82,7 +82,7 @@ body_fault p text rest body second bytes many Memory read (inr wrong) = absurd w
 
 -- the front of the text
 pub front_of : (p : Problem) (text rest body : List ℕ) (second : Bool) (bytes many size : ℕ) (s : Scanned) (list : List Marked) → size ≡ length text → IsTableRead p text rest body second bytes many → IsScanned p body s → list ≡ map seen s.entries.items
-    → IsFront text (record { problem = p; list = list; bytes = size - length body + s.start; tokens = s.counts.tokens })
+    → IsCertificateFront text (record { problem = p; list = list; bytes = size - length body + s.start; tokens = s.counts.tokens })
 front_of p text rest body second bytes many size s list long read scanned same =
     let part = table_part p text rest body second bytes many read in
     let head = text_of (head_words second ∷ []) in

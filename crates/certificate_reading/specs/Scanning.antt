@@ -9,9 +9,9 @@ use Rattle.ground_entries.specs.Seen.{seen}
 use Rattle.text_rows.specs.Rows.{text_of}
 use Rattle.certificate_lines.specs.declared.line.CertLine.{CertLine}
 use Rattle.certificate_lines.specs.declared.line.CertLine.TheVariants.{Tokens, End}
-use Rattle.certificate_lines.specs.Lines.{words_of, entry_line}
-use Rattle.certificate_reading.specs.declared.counts.Part.{Part}
-use Rattle.certificate_reading.specs.declared.counts.Part.TheVariants as part
+use Rattle.certificate_lines.specs.Lines.{certificate_line_words, entry_line}
+use Rattle.certificate_reading.specs.declared.counts.TextPart.{TextPart}
+use Rattle.certificate_reading.specs.declared.counts.TextPart.TheVariants as part
 use Rattle.certificate_reading.specs.declared.counts.Counts.{Counts}
 use Rattle.certificate_reading.specs.declared.scanned.Scanned.{Scanned}
 use Rattle.certificate_reading.specs.declared.fault.CertText.{CertText}
@@ -19,25 +19,25 @@ use Rattle.certificate_reading.specs.declared.fault.CertText.TheVariants.{Line}
 use Rattle.certificate_reading.specs.Counts.{no_counts, counts_after, counts_of}
 use Rattle.certificate_reading.specs.Order.{is_entry}
 use Rattle.certificate_reading.specs.Ranges.{FitsLine}
-use Rattle.certificate_reading.specs.Body.{AreFine, AreLinesOf, IsBody, IsBodyFault, token_lines}
+use Rattle.certificate_reading.specs.Body.{AreFineCertificateLines, AreCertificateLinesOf, IsBody, IsBodyFault, token_lines}
 use Rattle.certificate_reading.specs.Texts.{token_part}
 
 -- behind the line `tokens`, which ends at `start`, stand these tokens, and then the rest
-abbrev pub StandsBehind : Part → List ℕ → ℕ → List Token → List ℕ → Type 0
+abbrev pub StandsBehind : TextPart → List ℕ → ℕ → List Token → List ℕ → Type 0
 StandsBehind part.Start text start tokens rest = tokens ≡ []
 StandsBehind part.Entries text start tokens rest = tokens ≡ []
 StandsBehind part.Tokens text start tokens rest =
-    drop start text ≡ text_of (map words_of (token_lines tokens)) ++ rest
+    drop start text ≡ text_of (map certificate_line_words (token_lines tokens)) ++ rest
 StandsBehind part.End text start tokens rest =
-    drop start text ≡ text_of (map words_of (token_lines tokens ++ End ∷ [])) ++ rest
+    drop start text ≡ text_of (map certificate_line_words (token_lines tokens ++ End ∷ [])) ++ rest
 
 -- the lines that were read, with what was kept of them
 pub record IsReadTo (p : Problem) (text rest : List ℕ) (c : Counts) (es : List Marked)
     (ts : List Token) (start : ℕ) (lines : List CertLine) : Type 0 where
-  pub whole : text ≡ text_of (map words_of lines) ++ rest
-  pub fine : AreFine p no_counts lines
+  pub whole : text ≡ text_of (map certificate_line_words lines) ++ rest
+  pub fine : AreFineCertificateLines p no_counts lines
   pub counted : c ≡ counts_of lines
-  pub of : AreLinesOf es ts lines
+  pub of : AreCertificateLinesOf es ts lines
   pub entries : c.entries ≡ length es
   pub tokens : c.tokens ≡ length ts
   pub fit : All FitsLine ts

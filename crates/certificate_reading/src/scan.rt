@@ -2,10 +2,10 @@
 ghost use Rattle.std.specs.Prelude.{◌≡◌, ◌⊎◌, ◌+◌, ◌≤◌, ◌++◌, ◌∷◌, [], ℕ, List, Bool, length, take, IfSome, IfNone, IfOk, IfErr, MatchOption};
 ghost use Rattle.text_rows.specs.Rows.{rows, text_of};
 ghost use Rattle.table_reading.specs.declared.fault.TableFault.{TableFault as TableWrong};
-ghost use Rattle.table_reading.specs.Lines.{words_of as table_words};
+ghost use Rattle.table_reading.specs.Lines.{table_line_words as table_words};
 ghost use Rattle.table_reading.specs.Reading.{IsTableText, IsFrontFault};
 ghost use Rattle.certificate_reading.specs.declared.fault.CertText.TheVariants.{Memory as OutOfMemory};
-ghost use Rattle.certificate_reading.specs.Texts.{BeginsWith, IsHeaded, IsFront, IsCertFault, head_words, table_head};
+ghost use Rattle.certificate_reading.specs.Texts.{BeginsWithLine, IsHeaded, IsCertificateFront, IsCertFault, head_words, table_head};
 
 use crate::scanned::scan_lines;
 use crate::{CertFront, CertText};
@@ -32,7 +32,7 @@ fn behind<'a>(text: &'a [u8], front: &[u8]) -> Option<&'a [u8]>
 fn behind_head(text: &[u8]) -> Option<(bool, &[u8])>
     ensures found { IfSome result (λ head. IsHeaded head.0 text.now head.1.now) }
     ensures none { IfNone result
-        ((second : Bool) → BeginsWith (head_words second) text.now → ⊥) }
+        ((second : Bool) → BeginsWithLine (head_words second) text.now → ⊥) }
 {
     if let Some(rest) = behind(text, b"sidb-certificate 1\n") {
         return Some((false, rest));
@@ -45,7 +45,7 @@ fn behind_head(text: &[u8]) -> Option<(bool, &[u8])>
 
 // What stands behind the first line of a table text of this version.
 fn behind_version(second: bool, text: &[u8]) -> Option<&[u8]>
-    ensures { MatchOption result (BeginsWith (table_words (table_head second)) text.now → ⊥)
+    ensures { MatchOption result (BeginsWithLine (table_words (table_head second)) text.now → ⊥)
         (λ rest. text.now ≡ text_of (table_words (table_head second) ∷ []) ++ rest.now) }
 {
     if second {
@@ -74,7 +74,7 @@ fn table_front(alloc: Global, text: &[u8]) -> Result<TableFront, CertText>
 /// The front of a certificate text, where the text is one to its end, else its first fault. Tokens
 /// are tested and not kept.
 pub fn scan_certificate(alloc: Global, text: &[u8]) -> Result<CertFront, CertText>
-    ensures found { IfOk result (λ front. IsFront text.now front) }
+    ensures found { IfOk result (λ front. IsCertificateFront text.now front) }
     ensures fault { IfErr result
         (λ fault. (fault ≡ OutOfMemory) ⊎ IsCertFault text.now fault) }
 {

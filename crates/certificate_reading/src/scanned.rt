@@ -5,7 +5,7 @@ ghost use Rattle.ground_entries.specs.Seen.{seen};
 ghost use Rattle.certificate_lines.specs.Lines.{entry_line};
 ghost use Rattle.certificate_reading.specs.declared.fault.CertText.TheVariants.{Memory as OutOfMemory};
 ghost use Rattle.certificate_reading.specs.Order.{is_entry};
-ghost use Rattle.certificate_reading.specs.Ranges.{is_in_range, AreInRange};
+ghost use Rattle.certificate_reading.specs.Ranges.{is_certificate_line_in_range, AreCountsInRange};
 ghost use Rattle.certificate_reading.specs.Scanning.{IsScanned, IsScanFault, Takes};
 
 use crate::CertText;
@@ -36,7 +36,7 @@ fn push_entry(
     counts: &Counts,
     line: CertLine,
 ) -> Result<(), Memory>
-    requires { is_in_range problem.now counts.now line ≡ true }
+    requires { is_certificate_line_in_range problem.now counts.now line ≡ true }
     ensures { OnOk result (map entry_line (map seen entries.new.items)
         ≡ map entry_line (map seen entries.old.items) ++ filter is_entry (line ∷ [])) }
 {
@@ -50,8 +50,8 @@ fn push_entry(
 impl Scanned {
     // Takes one more line, which ends at this place.
     fn take(&mut self, problem: &Problem, line: CertLine, place: usize) -> Result<(), Memory>
-        requires ranges { AreInRange self.old.counts }
-        requires in_range { is_in_range problem.now self.old.counts line ≡ true }
+        requires ranges { AreCountsInRange self.old.counts }
+        requires in_range { is_certificate_line_in_range problem.now self.old.counts line ≡ true }
         ensures { OnOk result (Takes self.old self.new place line) }
     {
         let counts = self.counts;

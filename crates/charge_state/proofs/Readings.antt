@@ -10,7 +10,7 @@ use Rattle.charge_model.specs.declared.charge.Charge.TheVariants.{Neg, Neutral, 
 use Rattle.charge_state.specs.declared.text.ChargeFault.{ChargeFault}
 use Rattle.charge_state.specs.declared.text.ChargeFault.TheVariants.{BadByte, TooLong}
 use Rattle.charge_state.specs.declared.TheConstants.{POINT}
-use Rattle.charge_state.specs.Text.{byte_of, charges_text, BeginsText, BreaksAt, IsTooLong, Reads, IsReading}
+use Rattle.charge_state.specs.Text.{byte_of, charges_text, BeginsText, BreaksTextAt, IsTooLongText, ReadsCharges, IsReading}
 
 byte_one : (a b : Charge) → byte_of a ≡ byte_of b → a ≡ b
 byte_one Neg Neg e = refl
@@ -66,7 +66,7 @@ text_begins xs c e = (c, [], sym e ∙ sym (take-length xs) ∙ sym (no_more (ta
     no_more (y ∷ ys) = ap (λ z. y ∷ z) (no_more ys)
 
 -- a text that breaks the form is that of no list
-broken_unread : (xs : List ℕ) (at : ℕ) (c : List Charge) → BreaksAt xs at → xs ≡ charges_text c → ⊥
+broken_unread : (xs : List ℕ) (at : ℕ) (c : List Charge) → BreaksTextAt xs at → xs ≡ charges_text c → ⊥
 broken_unread xs at c breaks e = by (cases_order at (length xs))
   where
     by : (at ≡ length xs) ⊎ ((at < length xs) ⊎ (length xs < at)) → ⊥
@@ -75,11 +75,11 @@ broken_unread xs at c breaks e = by (cases_order at (length xs))
     by (inr (inr past)) = omega (arith, past, breaks.within)
 
 -- it breaks it at one place
-broken_before : (xs : List ℕ) (a b : ℕ) → BreaksAt xs a → BreaksAt xs b → a < b → ⊥
+broken_before : (xs : List ℕ) (a b : ℕ) → BreaksTextAt xs a → BreaksTextAt xs b → a < b → ⊥
 broken_before xs a b one two lt =
     one.breaks (omega (arith, lt, two.within)) (begins_before (suc a) b xs (omega (arith, lt)) two.before)
 
-broken_once : (xs : List ℕ) (a b : ℕ) → BreaksAt xs a → BreaksAt xs b → a ≡ b
+broken_once : (xs : List ℕ) (a b : ℕ) → BreaksTextAt xs a → BreaksTextAt xs b → a ≡ b
 broken_once xs a b one two = by (cases_order a b)
   where
     by : (a ≡ b) ⊎ ((a < b) ⊎ (b < a)) → a ≡ b
@@ -87,7 +87,7 @@ broken_once xs a b one two = by (cases_order a b)
     by (inr (inl lt)) = absurd (broken_before xs a b one two lt)
     by (inr (inr gt)) = absurd (broken_before xs b a two one gt)
 
-fits_or_not : (xs : List ℕ) (c d : List Charge) → Reads xs c → xs ≡ charges_text d → MAX_SITES < length d → ⊥
+fits_or_not : (xs : List ℕ) (c d : List Charge) → ReadsCharges xs c → xs ≡ charges_text d → MAX_SITES < length d → ⊥
 fits_or_not xs c d one two long =
     let same : length c ≡ length d = ap length (text_one c d (sym one.reads ∙ two)) in
     omega (arith, same, long, one.fits)
@@ -105,9 +105,9 @@ one_reading text (Err TooLong) (Err TooLong) one two = refl
 
 -- a reading says exactly what a text says
 pub record Says (text : List ℕ) (r : Result (List Charge) ChargeFault) : Type 0 where
-  pub read : (c : List Charge) → (r ≡ Ok c) ↔ Reads text c
-  pub bad_byte : (at : ℕ) → (r ≡ Err (BadByte at)) ↔ BreaksAt text at
-  pub too_long : (r ≡ Err TooLong) ↔ IsTooLong text
+  pub read : (c : List Charge) → (r ≡ Ok c) ↔ ReadsCharges text c
+  pub bad_byte : (at : ℕ) → (r ≡ Err (BadByte at)) ↔ BreaksTextAt text at
+  pub too_long : (r ≡ Err TooLong) ↔ IsTooLongText text
 
 pub reading_says : (text : List ℕ) (r : Result (List Charge) ChargeFault) → IsReading text r → Says text r
 reading_says text r is = record {
@@ -117,7 +117,7 @@ reading_says text r is = record {
 }
 
 -- the empty text ends too early
-pub empty_breaks : (xs : List ℕ) → length xs ≡ 0 → BreaksAt xs 0
+pub empty_breaks : (xs : List ℕ) → length xs ≡ 0 → BreaksTextAt xs 0
 empty_breaks [] e = record {
   within = omega arith;
   before = ([], POINT ∷ [], refl);
@@ -131,7 +131,7 @@ empty_breaks [] e = record {
 empty_breaks (x ∷ xs) e = absurd (omega (arith, e))
 
 -- a point stands alone
-pub point_breaks : (xs : List ℕ) → 1 < length xs → get_or xs 0 0 ≡ POINT → BreaksAt xs 1
+pub point_breaks : (xs : List ℕ) → 1 < length xs → get_or xs 0 0 ≡ POINT → BreaksTextAt xs 1
 point_breaks [] more point = absurd (omega (arith, more))
 point_breaks (x ∷ []) more point = absurd (omega (arith, more))
 point_breaks (x ∷ y ∷ ys) more point = record {
@@ -145,7 +145,7 @@ point_breaks (x ∷ y ∷ ys) more point = record {
     no_begin [] rest e = cc
     no_begin (d ∷ ds) rest e = let first : byte_of d ≡ POINT = cc in no_point d first
 
-pub point_reads : (xs : List ℕ) → length xs ≡ 1 → get_or xs 0 0 ≡ POINT → Reads xs []
+pub point_reads : (xs : List ℕ) → length xs ≡ 1 → get_or xs 0 0 ≡ POINT → ReadsCharges xs []
 point_reads [] one point = absurd (omega (arith, one))
 point_reads (x ∷ []) one point = record { reads = ap (λ z. z ∷ []) point; fits = omega arith }
 point_reads (x ∷ y ∷ ys) one point = absurd (omega (arith, one))
@@ -160,7 +160,7 @@ sign_in (d ∷ ds) (c ∷ cs) b rest e =
 
 -- after signs a byte that is none breaks the form
 pub other_breaks : (xs : List ℕ) (i b : ℕ) (cs : List Charge) → i < length xs → map byte_of cs ≡ take i xs
-    → b ≡ get_or xs i 0 → get_or xs 0 0 ≢ POINT → ((charge : Charge) → byte_of charge ≡ b → ⊥) → BreaksAt xs i
+    → b ≡ get_or xs i 0 → get_or xs 0 0 ≢ POINT → ((charge : Charge) → byte_of charge ≡ b → ⊥) → BreaksTextAt xs i
 other_breaks xs i b cs inside signs is no_first other = record {
   within = omega (arith, inside);
   before = before cs signs;

@@ -3,7 +3,7 @@ use Rattle.std.proofs.Common.{◌≡◌, [], ◌∷◌, refl, arith, codes, ◌�
 use Rattle.charge_model.specs.declared.charge.Charge.TheVariants.{Neg, Neutral, Pos}
 use Rattle.charge_model.specs.Charges.{IsBefore}
 use Rattle.charge_state.specs.Order.{IsRun, IsListOf, HoldsEach}
-use Rattle.charge_state.specs.Text.{BreaksAt, Reads}
+use Rattle.charge_state.specs.Text.{BreaksTextAt, ReadsCharges}
 
 -- a run that skips a list, that stops early, and that begins late
 no_skip : IsRun 3 1 ((Neg ∷ []) ∷ (Pos ∷ []) ∷ []) → ⊥
@@ -38,14 +38,14 @@ no_missing : HoldsEach 3 1 [] → ⊥
 no_missing holds = let found = holds.each (Neg ∷ []) (record { whole = refl; of_base = ((λ two e. absurd (omega (arith, two))), tt) }) in omega (arith, found.1)
 
 -- another charge, an earlier byte, a later byte, and the end of a whole text
-no_other_sign : Reads (codes "0") (Neg ∷ []) → ⊥
+no_other_sign : ReadsCharges (codes "0") (Neg ∷ []) → ⊥
 no_other_sign is = let e = is.reads in absurd (cc)
 
-no_earlier_byte : BreaksAt (codes "-x") 0 → ⊥
+no_earlier_byte : BreaksTextAt (codes "-x") 0 → ⊥
 no_earlier_byte is = is.breaks (omega arith) (Neg ∷ [], [], refl)
 
-no_later_byte : BreaksAt (codes "-x") 3 → ⊥
+no_later_byte : BreaksTextAt (codes "-x") 3 → ⊥
 no_later_byte is = omega (arith, is.within)
 
-no_whole_text : BreaksAt (codes "-") 1 → ⊥
+no_whole_text : BreaksTextAt (codes "-") 1 → ⊥
 no_whole_text is = is.ends refl (Neg ∷ []) refl

@@ -7,7 +7,7 @@ use Rattle.std.proofs.lemmas.List.Kept.{AllPairs-cons}
 use Rattle.charge_model.specs.declared.charge.Charge.{Charge}
 use Rattle.charge_model.specs.declared.charge.Charge.TheVariants.{Neg}
 use Rattle.charge_model.specs.Charges.{IsBefore, IsOfBase, IsNext, IsLast}
-use Rattle.charge_state.specs.Order.{successor_of, GoesOn, IsRun, IsListOf, HoldsEach}
+use Rattle.charge_state.specs.Order.{successor_of, GoesOnFrom, IsRun, IsListOf, HoldsEach}
 use Rattle.charge_state.proofs.Numerals.{AllLast, none_after_last, first-least, fill_of_base, next_is, numeral, numeral-lt, numeral-mono}
 use Rattle.charge_model.proofs.Order.{IsBefore-trans}
 
@@ -15,7 +15,7 @@ contains_later : (x : List Charge) (xs : List (List Charge)) (e : List Charge) �
 contains_later x xs e (k, lt, at) = (suc k, omega (arith, lt), at)
 
 -- each list from c on is met
-run_each : (b : ℕ) (c : List Charge) (rest : List (List Charge)) → GoesOn b c rest
+run_each : (b : ℕ) (c : List Charge) (rest : List (List Charge)) → GoesOnFrom b c rest
     → (e : List Charge) → length e ≡ length c → IsOfBase b e → (e ≡ c) ⊎ IsBefore c e → Contains (c ∷ rest) e
 run_each b c [] goes e same of (inl eq) = (0, omega arith, sym eq)
 run_each b c [] goes e same of (inr before) = absurd (goes e same of before)
@@ -24,19 +24,19 @@ run_each b c (d ∷ rest) goes e same of (inr before) =
     let next = goes.0 in
     contains_later c (d ∷ rest) e (run_each b d rest goes.1 e (same ∙ sym next.whole) of (next.none_between e same of before))
 
-run_only : (b n : ℕ) (c : List Charge) (rest : List (List Charge)) → GoesOn b c rest → IsListOf b n c → All (IsListOf b n) (c ∷ rest)
+run_only : (b n : ℕ) (c : List Charge) (rest : List (List Charge)) → GoesOnFrom b c rest → IsListOf b n c → All (IsListOf b n) (c ∷ rest)
 run_only b n c [] goes is = All-cons (IsListOf b n) c [] is (All-nil (IsListOf b n))
 run_only b n c (d ∷ rest) goes is =
     let next = goes.0 in
     All-cons (IsListOf b n) c (d ∷ rest) is (run_only b n d rest goes.1 (record { whole = next.whole ∙ is.whole; of_base = next.of_base }))
 
-run_above : (b : ℕ) (c : List Charge) (rest : List (List Charge)) (a : List Charge) → GoesOn b c rest → IsBefore a c → All (IsBefore a) (c ∷ rest)
+run_above : (b : ℕ) (c : List Charge) (rest : List (List Charge)) (a : List Charge) → GoesOnFrom b c rest → IsBefore a c → All (IsBefore a) (c ∷ rest)
 run_above b c [] a goes before = All-cons (IsBefore a) c [] before (All-nil (IsBefore a))
 run_above b c (d ∷ rest) a goes before =
     let next = goes.0 in
     All-cons (IsBefore a) c (d ∷ rest) before (run_above b d rest a goes.1 (IsBefore-trans a c d before next.after))
 
-run_in_order : (b : ℕ) (c : List Charge) (rest : List (List Charge)) → GoesOn b c rest → AllPairs IsBefore (c ∷ rest)
+run_in_order : (b : ℕ) (c : List Charge) (rest : List (List Charge)) → GoesOnFrom b c rest → AllPairs IsBefore (c ∷ rest)
 run_in_order b c [] goes = AllPairs-cons IsBefore c [] (All-nil (IsBefore c)) (λ i j d lt within. absurd (omega (arith, within)))
 run_in_order b c (d ∷ rest) goes =
     let next = goes.0 in
@@ -82,13 +82,13 @@ next_or_last b c of = by (split c)
         inl (pre ++ d ∷ replicate (length rest) Neg, subst (λ z. IsNext b z (pre ++ d ∷ replicate (length rest) Neg)) (sym is) next)
 
 -- going on from c ends
-goes_on : (fuel b : ℕ) (c : List Charge) → IsOfBase b c → 3 ^ length c ≤ numeral c + fuel → (rest : List (List Charge)) × GoesOn b c rest
+goes_on : (fuel b : ℕ) (c : List Charge) → IsOfBase b c → 3 ^ length c ≤ numeral c + fuel → (rest : List (List Charge)) × GoesOnFrom b c rest
 goes_on zero b c of enough = absurd (omega (arith, enough, numeral-lt c))
 goes_on (suc fuel) b c of enough = by (next_or_last b c of) (goes_on fuel b)
   where
     by : ((d : List Charge) × IsNext b c d) ⊎ IsLast b c
-        → ((d : List Charge) → IsOfBase b d → 3 ^ length d ≤ numeral d + fuel → (rest : List (List Charge)) × GoesOn b d rest)
-        → (rest : List (List Charge)) × GoesOn b c rest
+        → ((d : List Charge) → IsOfBase b d → 3 ^ length d ≤ numeral d + fuel → (rest : List (List Charge)) × GoesOnFrom b d rest)
+        → (rest : List (List Charge)) × GoesOnFrom b c rest
     by (inl (d, next)) from =
         let above = numeral-mono c d next.whole next.after in
         let power : 3 ^ length d ≡ 3 ^ length c = ap (λ z. 3 ^ z) next.whole in

@@ -4,7 +4,7 @@ use Rattle.charge_model.specs.declared.charge.Charge.{Charge}
 use Rattle.charge_model.specs.declared.charge.Charge.TheVariants.{Neg, Neutral, Pos}
 use Rattle.charge_model.specs.Charges.{IsNext, IsLast}
 use Rattle.charge_state.specs.Order.{IsRun}
-use Rattle.charge_state.specs.Text.{byte_of, charges_text, BreaksAt, IsTooLong}
+use Rattle.charge_state.specs.Text.{byte_of, charges_text, BreaksTextAt, IsTooLongText}
 use Rattle.charge_state.proofs.Numerals.{next_is, none_after_last}
 use Rattle.charge_state.proofs.Readings.{point_breaks, other_breaks, empty_breaks}
 
@@ -26,7 +26,7 @@ run_of_one : IsRun 2 1 ((Neg ∷ []) ∷ (Neutral ∷ []) ∷ [])
 run_of_one = (refl, (next_is 2 [] Neg Neutral [] refl tt ((λ two e. absurd (cc)), tt), none_after_last 2 (Neutral ∷ []) (refl, tt)))
 
 -- x is no charge, a point stands alone, and an empty text ends too early
-broken_by_x : BreaksAt (codes "-x") 1
+broken_by_x : BreaksTextAt (codes "-x") 1
 broken_by_x = other_breaks (codes "-x") 1 120 (Neg ∷ []) (omega arith) refl refl (λ e. absurd (omega (arith, e))) no_x
   where
     no_x : (charge : Charge) → byte_of charge ≡ 120 → ⊥
@@ -34,12 +34,12 @@ broken_by_x = other_breaks (codes "-x") 1 120 (Neg ∷ []) (omega arith) refl re
     no_x Neutral e = omega (arith, e)
     no_x Pos e = omega (arith, e)
 
-broken_after_point : BreaksAt (codes ".-") 1
+broken_after_point : BreaksTextAt (codes ".-") 1
 broken_after_point = point_breaks (codes ".-") (omega arith) refl
 
-broken_empty : BreaksAt [] 0
+broken_empty : BreaksTextAt [] 0
 broken_empty = empty_breaks [] refl
 
 -- 65 charges are one too many
-too_long : IsTooLong (replicate 65 45)
+too_long : IsTooLongText (replicate 65 45)
 too_long = record { charges = replicate 65 Neg; reads = refl; long = omega arith }

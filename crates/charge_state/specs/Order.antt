@@ -11,14 +11,14 @@ successor_of base Neutral = if base == 2 then None else Some Pos
 successor_of base Pos = None
 
 -- each list is the next of the one before it, from this one on, and the last has none
-abbrev pub GoesOn : ℕ → List Charge → List (List Charge) → Type 0
-GoesOn base c [] = IsLast base c
-GoesOn base c (d ∷ rest) = IsNext base c d × GoesOn base d rest
+abbrev pub GoesOnFrom : ℕ → List Charge → List (List Charge) → Type 0
+GoesOnFrom base c [] = IsLast base c
+GoesOnFrom base c (d ∷ rest) = IsNext base c d × GoesOnFrom base d rest
 
 -- from n times Neg on by next lists, until there is none
 abbrev pub IsRun : ℕ → ℕ → List (List Charge) → Type 0
 IsRun base n [] = ⊥
-IsRun base n (c ∷ rest) = (c ≡ replicate n Neg) × GoesOn base c rest
+IsRun base n (c ∷ rest) = (c ≡ replicate n Neg) × GoesOnFrom base c rest
 
 -- a list of n charges of the base
 pub record IsListOf (base n : ℕ) (c : List Charge) : Type 0 where

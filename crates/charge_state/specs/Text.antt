@@ -24,25 +24,25 @@ BeginsText front = (c : List Charge) × (rest : List ℕ) × (charges_text c ≡
 
 -- the place of the first byte with which no text of a list goes on,
 -- or the length where the text ends too early
-pub record BreaksAt (text : List ℕ) (at : ℕ) : Type 0 where
+pub record BreaksTextAt (text : List ℕ) (at : ℕ) : Type 0 where
   pub within : at ≤ length text
   pub before : BeginsText (take at text)
   pub breaks : at < length text → BeginsText (take (suc at) text) → ⊥
   pub ends : at ≡ length text → (c : List Charge) → text ≡ charges_text c → ⊥
 
 -- the text of a list of too many charges
-pub record IsTooLong (text : List ℕ) : Type 0 where
+pub record IsTooLongText (text : List ℕ) : Type 0 where
   pub charges : List Charge
   pub reads : text ≡ charges_text charges
   pub long : MAX_SITES < length charges
 
 -- the text of a list that fits
-pub record Reads (text : List ℕ) (c : List Charge) : Type 0 where
+pub record ReadsCharges (text : List ℕ) (c : List Charge) : Type 0 where
   pub reads : text ≡ charges_text c
   pub fits : length c ≤ MAX_SITES
 
 -- what a text says: a list, or the one fault that it has
 abbrev pub IsReading : List ℕ → Result (List Charge) ChargeFault → Type 0
-IsReading text (Ok c) = Reads text c
-IsReading text (Err (BadByte at)) = BreaksAt text at
-IsReading text (Err TooLong) = IsTooLong text
+IsReading text (Ok c) = ReadsCharges text c
+IsReading text (Err (BadByte at)) = BreaksTextAt text at
+IsReading text (Err TooLong) = IsTooLongText text

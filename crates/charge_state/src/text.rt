@@ -2,7 +2,7 @@ ghost use Rattle.std.specs.Prelude.{◌≡◌, ◌≢◌, ◌∷◌, ◌<◌, �
 ghost use Rattle.charge_model.specs.declared.charge.Charge.{Charge};
 ghost use Rattle.charge_state.specs.declared.TheConstants.{POINT};
 ghost use Rattle.charge_state.specs.declared.text.ChargeFault.TheVariants.{BadByte, TooLong};
-ghost use Rattle.charge_state.specs.Text.{byte_of, charges_text, BreaksAt, IsTooLong, IsReading, Reads};
+ghost use Rattle.charge_state.specs.Text.{byte_of, charges_text, BreaksTextAt, IsTooLongText, IsReading, ReadsCharges};
 
 use crate::charges::Charges;
 use crate::{MINUS, PLUS, POINT, ZERO};
@@ -58,9 +58,9 @@ fn read_signs(text: &[u8]) -> Result<Charges, ChargeFault>
 
 /// Reads a charge list: `-`, `0` or `+` for each site, site 0 first, and `.` alone for no site.
 pub fn read_charges(text: &[u8]) -> Result<Charges, ChargeFault>
-    ensures read { (c : List Charge) → (result ≡ Ok c) ↔ Reads text.now c }
-    ensures bad_byte { (at : ℕ) → (result ≡ Err (BadByte at)) ↔ BreaksAt text.now at }
-    ensures too_long { (result ≡ Err TooLong) ↔ IsTooLong text.now }
+    ensures read { (c : List Charge) → (result ≡ Ok c) ↔ ReadsCharges text.now c }
+    ensures bad_byte { (at : ℕ) → (result ≡ Err (BadByte at)) ↔ BreaksTextAt text.now at }
+    ensures too_long { (result ≡ Err TooLong) ↔ IsTooLongText text.now }
 {
     if text.is_empty() {
         return Err(ChargeFault::BadByte(0));

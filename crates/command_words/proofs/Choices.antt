@@ -3,8 +3,8 @@ use Rattle.std.proofs.Common.{◌≡◌, ◌∙◌, sym, ap, refl, ℕ, ◌+◌,
 use Rattle.clap.specs.Walk.{Text}
 use Rattle.command_words.specs.declared.settings.Task.{Task}
 use Rattle.command_words.specs.declared.settings.Task.TheVariants.{Ground, Potentials, Certify, Check, Window, Occupation, Range, Gen, Truth, Domain, Region}
-use Rattle.command_words.specs.declared.settings.Form.{Form}
-use Rattle.command_words.specs.declared.settings.Form.TheVariants.{Sites, Sqd, Table}
+use Rattle.command_words.specs.declared.settings.InputForm.{InputForm}
+use Rattle.command_words.specs.declared.settings.InputForm.TheVariants.{Sites, Sqd, Table}
 use Rattle.command_words.specs.Options.{IsChoice}
 use Rattle.command_words.specs.Settings.{form_name, task_name}
 use Rattle.command_words.proofs.Decided.{HasSomeOrNone, text_decided}
@@ -114,26 +114,26 @@ pub begins_a_task : (text : Text) (task : Task) → text ≡ task_name task → 
 begins_a_task text task is = ap (λ t. task_by (key t)) is ∙ known_task task
 
 -- all forms
-abbrev forms : List Form
+abbrev forms : List InputForm
 forms = Sites ∷ Sqd ∷ Table ∷ []
 
-each_form : (form : Form) → IsAmong forms form
+each_form : (form : InputForm) → IsAmong forms form
 each_form Sites = inl refl
 each_form Sqd = inr (inl refl)
 each_form Table = inr (inr (inl refl))
 
 -- the form of which a name begins with these letters
-unfoldable pub form_by : ℕ → Option Form
+unfoldable pub form_by : ℕ → Option InputForm
 form_by k = if k == 115105 then Some Sites else if k == 115113 then Some Sqd else if k == 116097 then Some Table else None
 
-known_form : (form : Form) → form_by (key (form_name form)) ≡ Some form
+known_form : (form : InputForm) → form_by (key (form_name form)) ≡ Some form
 unfolding key form_by
 known_form Sites = refl
 known_form Sqd = refl
 known_form Table = refl
 
 -- the same for the name of a form
-pub begins_a_form : (text : Text) (form : Form) → text ≡ form_name form → form_by (key text) ≡ Some form
+pub begins_a_form : (text : Text) (form : InputForm) → text ≡ form_name form → form_by (key text) ≡ Some form
 begins_a_form text form is = ap (λ t. form_by (key t)) is ∙ known_form form
 
 pub some_task : (told : Option Text) → HasSomeOrNone (IsChoice task_name Ground told)
@@ -145,5 +145,5 @@ one_task = one_choice task_name (λ text. task_by (key text)) known_task Ground
 pub some_form : (told : Option Text) → HasSomeOrNone (IsChoice form_name Sites told)
 some_form = some_choice form_name forms each_form Sites
 
-pub one_form : (told : Option Text) (a b : Form) → IsChoice form_name Sites told a → IsChoice form_name Sites told b → a ≡ b
+pub one_form : (told : Option Text) (a b : InputForm) → IsChoice form_name Sites told a → IsChoice form_name Sites told b → a ≡ b
 one_form = one_choice form_name (λ text. form_by (key text)) known_form Sites

@@ -6,13 +6,14 @@ use Rattle.std.proofs.lemmas.Int.{fits_signed_from_abs, ints}
 use mir.Val.{SFits}
 use Rattle.std.specs.List.{slice_split}
 use Rattle.std.proofs.lemmas.List.Splits.{length-slice_split}
+use Rattle.gate_model.specs.Pairs.{between_colons}
 use Rattle.clap.specs.Walk.{Text}
 use Rattle.sidb_units.specs.declared.decimal_fault.DecFault.{DecFault}
-use Rattle.sidb_units.specs.Decimal.{HasFault, value_of as value_read}
+use Rattle.sidb_units.specs.Decimal.{HasDecimalFault, decimal_value as value_read}
 use Rattle.model_params.specs.Quantities.{level_depth}
 use Rattle.command_words.specs.declared.settings.DepthRange.{DepthRange}
 use Rattle.command_words.specs.Limits.{AreEndsOfDepths}
-use Rattle.command_words.specs.Depths.{AreDepths, IsDepth, fields}
+use Rattle.command_words.specs.Depths.{AreDepths, IsDepth}
 use Rattle.command_words.proofs.Decided.{HasSomeOrNone}
 use Rattle.command_words.proofs.Readings.{AreReadings, IsReadOnce}
 
@@ -24,7 +25,7 @@ more_than_two p xs ys zs a b first second x y two =
     omega (arith, long, short, length-slice_split p zs)
 
 -- the first end of a range is that of its text, and so is the second
-module _ (text x y : Text) (words : fields text ≡ x ∷ y ∷ []) (r : DepthRange) (are : AreDepths text r) where
+module _ (text x y : Text) (words : between_colons text ≡ x ∷ y ∷ []) (r : DepthRange) (are : AreDepths text r) where
   first_end : IsDepth x r.from
   first_end = let same : are.first ≡ x = cc (words, are.words) in subst (λ w. IsDepth w r.from) same are.from
 
@@ -32,11 +33,11 @@ module _ (text x y : Text) (words : fields text ≡ x ∷ y ∷ []) (r : DepthRa
   second_end = let same : are.second ≡ y = cc (words, are.words) in subst (λ w. IsDepth w r.to) same are.to
 
 -- a text whose first end is no depth is no range
-pub no_first : (text x y : Text) → fields text ≡ x ∷ y ∷ [] → ((v : ℤ) → IsDepth x v → ⊥) → (r : DepthRange) → AreDepths text r → ⊥
+pub no_first : (text x y : Text) → between_colons text ≡ x ∷ y ∷ [] → ((v : ℤ) → IsDepth x v → ⊥) → (r : DepthRange) → AreDepths text r → ⊥
 no_first text x y words none r are = none r.from (first_end text x y words r are)
 
 -- nor is one whose second end is none
-pub no_second : (text x y : Text) → fields text ≡ x ∷ y ∷ [] → ((v : ℤ) → IsDepth y v → ⊥) → (r : DepthRange) → AreDepths text r → ⊥
+pub no_second : (text x y : Text) → between_colons text ≡ x ∷ y ∷ [] → ((v : ℤ) → IsDepth y v → ⊥) → (r : DepthRange) → AreDepths text r → ⊥
 no_second text x y words none r are = none r.to (second_end text x y words r are)
 
 -- a depth is small
@@ -49,7 +50,7 @@ depth_fits word v read =
     small n most = omega (arith, ints, most)
 
 -- nor is one with its greater end first
-pub no_order : IsReadOnce → (text x y : Text) (v w : ℤ) → fields text ≡ x ∷ y ∷ [] → IsDepth x v → IsDepth y w → w <ℤ v → (r : DepthRange) → AreDepths text r → ⊥
+pub no_order : IsReadOnce → (text x y : Text) (v w : ℤ) → between_colons text ≡ x ∷ y ∷ [] → IsDepth x v → IsDepth y w → w <ℤ v → (r : DepthRange) → AreDepths text r → ⊥
 no_order once text x y v w words from to less r are =
     let first : r.from ≡ v = once x level_depth.places level_depth.least level_depth.greatest r.from v (first_end text x y words r are) from in
     let second : r.to ≡ w = once y level_depth.places level_depth.least level_depth.greatest r.to w (second_end text x y words r are) to in
@@ -84,7 +85,7 @@ module _ (readings : AreReadings) where
   counted : (word : Text) → HasSomeOrNone (λ n. IsDepth word (pos n))
   counted word = by (readings.some word level_depth.places level_depth.least level_depth.greatest)
     where
-      by : ((v : ℤ) × IsDepth word v) ⊎ ((e : DecFault) × HasFault word level_depth.places level_depth.least level_depth.greatest e) → HasSomeOrNone (λ n. IsDepth word (pos n))
+      by : ((v : ℤ) × IsDepth word v) ⊎ ((e : DecFault) × HasDecimalFault word level_depth.places level_depth.least level_depth.greatest e) → HasSomeOrNone (λ n. IsDepth word (pos n))
       by (inl (v, read)) = inl (value_read word read.digits level_depth.places, subst (IsDepth word) read.value read)
       by (inr (e, fault)) = inr (λ n read. readings.no_fault word level_depth.places level_depth.least level_depth.greatest (pos n) e read fault)
 
@@ -93,7 +94,7 @@ module _ (readings : AreReadings) where
   as_count word v read = (value_read word read.digits level_depth.places, subst (IsDepth word) read.value read)
 
   -- two depths are a range, or are none
-  two_ends : IsReadOnce → (text x y : Text) → fields text ≡ x ∷ y ∷ [] → HasSomeOrNone (AreDepths text)
+  two_ends : IsReadOnce → (text x y : Text) → between_colons text ≡ x ∷ y ∷ [] → HasSomeOrNone (AreDepths text)
   two_ends once text x y words = by (counted x) (counted y)
     where
       of_order : (m n : ℕ) → IsDepth x (pos m) → IsDepth y (pos n) → (n < m) ⊎ (m ≤ n) → HasSomeOrNone (AreDepths text)
@@ -118,9 +119,9 @@ module _ (readings : AreReadings) where
 
   -- a text is a range, or is none
   pub some_depths : IsReadOnce → (text : Text) → HasSomeOrNone (AreDepths text)
-  some_depths once text = by (fields text) refl
+  some_depths once text = by (between_colons text) refl
     where
-      by : (parts : List Text) → fields text ≡ parts → HasSomeOrNone (AreDepths text)
+      by : (parts : List Text) → between_colons text ≡ parts → HasSomeOrNone (AreDepths text)
       by [] none = inr (λ r are. cc (none, are.words))
       by (x ∷ []) one = inr (λ r are. cc (one, are.words))
       by (x ∷ y ∷ []) two = two_ends once text x y two

@@ -6,7 +6,7 @@ use Rattle.gate_model.specs.declared.pairs.PairOf.{PairOf}
 use Rattle.gate_model.specs.Functions.{IsFunctionNamed}
 use Rattle.gate_model.specs.Grids.{Axes}
 use Rattle.gate_model.specs.GridTexts.{IsGridText}
-use Rattle.gate_model.specs.Logic.{AreDistinct}
+use Rattle.gate_model.specs.Logic.{HaveDistinctPlaces}
 use Rattle.gate_model.specs.Pairs.{ArePairs}
 use Rattle.command_words.specs.declared.gate_settings.GateSettings.{GateSettings}
 use Rattle.command_words.specs.Gates.{AreToldPairs, IsGateOf, IsToldFunction}
@@ -30,10 +30,10 @@ module _ (once : ArePairsOnce) (input output name points : Option Text) (g : Gat
   no_function none = none g.function (subst (λ (l : List PairOf). IsToldFunction (length l) name g.function) same_inputs are.function)
 
   -- nor is there one where places are not distinct
-  pub not_distinct : (outputs : List PairOf) → AreToldPairs 4 output outputs → (AreDistinct inputs outputs → ⊥) → ⊥
+  pub not_distinct : (outputs : List PairOf) → AreToldPairs 4 output outputs → (HaveDistinctPlaces inputs outputs → ⊥) → ⊥
   not_distinct outputs also none =
       let same = one_told once 4 output g.outputs outputs are.outputs also in
-      none (subst (λ (l : List PairOf). AreDistinct inputs l) same (subst (λ (l : List PairOf). AreDistinct l g.outputs) same_inputs are.distinct))
+      none (subst (λ (l : List PairOf). HaveDistinctPlaces inputs l) same (subst (λ (l : List PairOf). HaveDistinctPlaces l g.outputs) same_inputs are.distinct))
 
 -- a text is one list of pairs, a name stands for one function, and a text is one grid
 pub record AreGatesOnce : Type 0 where

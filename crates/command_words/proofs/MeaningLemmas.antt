@@ -6,7 +6,7 @@ use Rattle.window_model.specs.declared.window.Window.{Window}
 use Rattle.window_model.specs.Windows.{IsWindow}
 use Rattle.model_params.specs.declared.params.Params.{Params}
 use Rattle.model_params.specs.declared.quantity.Quantity.{Quantity}
-use Rattle.model_params.specs.Quantities.{IsWithin, coulomb_number, level_depth, level_gap, permittivity, screening_length}
+use Rattle.model_params.specs.Quantities.{IsInRangeOf, coulomb_number, level_depth, level_gap, permittivity, screening_length}
 use Rattle.command_words.specs.declared.settings.DepthRange.{DepthRange}
 use Rattle.command_words.specs.Depths.{AreDepths}
 use Rattle.command_words.specs.declared.gate_settings.GateSettings.{GateSettings}
@@ -17,9 +17,9 @@ use Rattle.command_words.specs.declared.settings.LevelSettings.{LevelSettings}
 use Rattle.command_words.specs.declared.settings.RegionSettings.{RegionSettings}
 use Rattle.command_words.specs.declared.settings.ReportSettings.{ReportSettings}
 use Rattle.command_words.specs.declared.settings.Task.{Task}
-use Rattle.command_words.specs.declared.settings.Form.{Form}
+use Rattle.command_words.specs.declared.settings.InputForm.{InputForm}
 use Rattle.command_words.specs.Limits.{AreGeneratedNumbers, AreSearchLimits, generated_sites, generator_number, node_limit, refine_depth, thermal_energy, window_width, worker_count}
-use Rattle.command_words.specs.Options.{IsBase, IsGiven, IsNumber}
+use Rattle.command_words.specs.Options.{IsBase, IsGiven, IsOptionNumber}
 use Rattle.command_words.specs.Settings.{AreGeneratedSettings, AreGroups, AreLevelSettings, AreParams, AreRegionSettings, AreReportSettings, AreSearchSettings}
 use Rattle.command_words.proofs.Readings.{IsReadOnce, one_read}
 use Rattle.command_words.proofs.DepthLemmas.{one_depths}
@@ -30,7 +30,7 @@ use Rattle.command_words.proofs.Choices.{one_form, one_task}
 abbrev pub AreGivenByNumbers : Type 0
 AreGivenByNumbers = (p q : Params) → p.coulomb ≡ q.coulomb → p.eps ≡ q.eps → p.lam ≡ q.lam → p.depth ≡ q.depth → p.gap ≡ q.gap → p.base ≡ q.base → p ≡ q
 
-one_number : IsReadOnce → (q : Quantity) (given : Option Text) (v w : ℤ) → IsNumber q given v → IsNumber q given w → v ≡ w
+one_number : IsReadOnce → (q : Quantity) (given : Option Text) (v w : ℤ) → IsOptionNumber q given v → IsOptionNumber q given w → v ≡ w
 one_number once q None v w e f = e ∙ sym f
 one_number once q (Some text) v w e f = once text q.places q.least q.greatest v w e f
 
@@ -111,7 +111,7 @@ one_window v w same = by v.width w.width same v.is_window w.is_window
     by a b same = subst (λ (e : ℤ). (x : IsWindow a) (y : IsWindow e) → made a x ≡ made e y) same (λ x y. ap (made a) (one_width a x y))
 
 -- there is one proof that a thermal energy is in range
-one_kt_range : (kt : ℤ) (a b : IsWithin thermal_energy kt) → a ≡ b
+one_kt_range : (kt : ℤ) (a b : IsInRangeOf thermal_energy kt) → a ≡ b
 one_kt_range kt = hlevel props
 
 -- the levels of a search have one meaning
@@ -122,14 +122,14 @@ one_level once value l m a b =
     (one_read AreDepths (one_depths once) (value (codes "range")) l.range m.range a.range b.range)
     (one_number once thermal_energy (value (codes "kt")) l.kt m.kt a.kt b.kt) l.kt_in_range m.kt_in_range
   where
-    made : (window : Window) (range : Option DepthRange) (kt : ℤ) → IsWithin thermal_energy kt → LevelSettings
+    made : (window : Window) (range : Option DepthRange) (kt : ℤ) → IsInRangeOf thermal_energy kt → LevelSettings
     made window range kt within = record { window = window; range = range; kt = kt; kt_in_range = within }
 
-    same : (v w : Window) (r s : Option DepthRange) (a b : ℤ) → v ≡ w → r ≡ s → a ≡ b → (x : IsWithin thermal_energy a) (y : IsWithin thermal_energy b) → made v r a x ≡ made w s b y
+    same : (v w : Window) (r s : Option DepthRange) (a b : ℤ) → v ≡ w → r ≡ s → a ≡ b → (x : IsInRangeOf thermal_energy a) (y : IsInRangeOf thermal_energy b) → made v r a x ≡ made w s b y
     same v w r s a b first second third =
-        subst (λ (u : Window). (x : IsWithin thermal_energy a) (y : IsWithin thermal_energy b) → made v r a x ≡ made u s b y) first
-        (subst (λ (u : Option DepthRange). (x : IsWithin thermal_energy a) (y : IsWithin thermal_energy b) → made v r a x ≡ made v u b y) second
-        (subst (λ (e : ℤ). (x : IsWithin thermal_energy a) (y : IsWithin thermal_energy e) → made v r a x ≡ made v r e y) third
+        subst (λ (u : Window). (x : IsInRangeOf thermal_energy a) (y : IsInRangeOf thermal_energy b) → made v r a x ≡ made u s b y) first
+        (subst (λ (u : Option DepthRange). (x : IsInRangeOf thermal_energy a) (y : IsInRangeOf thermal_energy b) → made v r a x ≡ made v u b y) second
+        (subst (λ (e : ℤ). (x : IsInRangeOf thermal_energy a) (y : IsInRangeOf thermal_energy e) → made v r a x ≡ made v r e y) third
         (λ x y. ap (made v r a) (one_kt_range a x y))))
 
 -- there is one proof that the numbers of a generated layout are in range
@@ -155,7 +155,7 @@ one_generated once value g h a b =
         (λ x y. ap (made a c) (one_generated_range a c x y)))
 
 -- there is one proof that a depth of refinement is in range
-one_refine_range : (refine : ℕ) (a b : IsWithin refine_depth (pos refine)) → a ≡ b
+one_refine_range : (refine : ℕ) (a b : IsInRangeOf refine_depth (pos refine)) → a ≡ b
 one_refine_range refine = hlevel props
 
 -- how finely tiles are cut has one meaning
@@ -165,11 +165,11 @@ one_region once value r t a b =
     let refine : r.refine ≡ t.refine = cc in
     same r.refine t.refine refine r.in_range t.in_range
   where
-    made : (refine : ℕ) → IsWithin refine_depth (pos refine) → RegionSettings
+    made : (refine : ℕ) → IsInRangeOf refine_depth (pos refine) → RegionSettings
     made refine within = record { refine = refine; in_range = within }
 
-    same : (a b : ℕ) → a ≡ b → (x : IsWithin refine_depth (pos a)) (y : IsWithin refine_depth (pos b)) → made a x ≡ made b y
-    same a b first = subst (λ (e : ℕ). (x : IsWithin refine_depth (pos a)) (y : IsWithin refine_depth (pos e)) → made a x ≡ made e y) first (λ x y. ap (made a) (one_refine_range a x y))
+    same : (a b : ℕ) → a ≡ b → (x : IsInRangeOf refine_depth (pos a)) (y : IsInRangeOf refine_depth (pos b)) → made a x ≡ made b y
+    same a b first = subst (λ (e : ℕ). (x : IsInRangeOf refine_depth (pos a)) (y : IsInRangeOf refine_depth (pos e)) → made a x ≡ made e y) first (λ x y. ap (made a) (one_refine_range a x y))
 
 -- the settings of a report have one meaning
 one_report : (value : Text → Option Text) (r t : ReportSettings) → AreReportSettings value r → AreReportSettings value t → r ≡ t
@@ -179,7 +179,7 @@ one_report value r t a b =
     (one_flag (value (codes "energies")) r.energies t.energies a.energies b.energies)
 
 -- settings are given by their groups
-same_settings : (t u : Task) (f h : Form) (p q : Params) (s r : SearchSettings) (m n : ReportSettings) (l k : LevelSettings) (x y : GateSettings) (g i : GeneratedSettings) (c d : RegionSettings)
+same_settings : (t u : Task) (f h : InputForm) (p q : Params) (s r : SearchSettings) (m n : ReportSettings) (l k : LevelSettings) (x y : GateSettings) (g i : GeneratedSettings) (c d : RegionSettings)
     → t ≡ u → f ≡ h → p ≡ q → s ≡ r → m ≡ n → l ≡ k → x ≡ y → g ≡ i → c ≡ d
     → ◌≡◌ {A = Settings} (record { task = t; form = f; params = p; search = s; report = m; levels = l; gate = x; generated = g; region = c }) (record { task = u; form = h; params = q; search = r; report = n; levels = k; gate = y; generated = i; region = d })
 same_settings t u f h p q s r m n l k x y g i c d task form params search report levels gate generated region = cc

@@ -4,9 +4,9 @@ use Rattle.std.proofs.lemmas.Int.{ints}
 use Rattle.command_words.specs.declared.settings.Settings.{Settings}
 use Rattle.command_words.specs.declared.settings.Task.{Task}
 use Rattle.command_words.specs.declared.settings.Task.TheVariants.{Ground, Range, Truth, Domain, Region}
-use Rattle.command_words.specs.declared.settings.Form.{Form}
-use Rattle.command_words.specs.declared.settings.Form.TheVariants.{Sites, Table}
-use Rattle.model_params.specs.Quantities.{IsWithin, level_depth, level_gap, permittivity, screening_length}
+use Rattle.command_words.specs.declared.settings.InputForm.{InputForm}
+use Rattle.command_words.specs.declared.settings.InputForm.TheVariants.{Sites, Table}
+use Rattle.model_params.specs.Quantities.{IsInRangeOf, level_depth, level_gap, permittivity, screening_length}
 use Rattle.gate_model.specs.declared.function.Function.{Function}
 use Rattle.gate_model.specs.Grids.{Axes, HasFarEnds}
 use Rattle.gate_model.proofs.StandardFacts.{pair}
@@ -14,7 +14,7 @@ use Rattle.command_words.specs.declared.settings.DepthRange.{DepthRange}
 use Rattle.command_words.specs.Depths.{AreDepths}
 use Rattle.command_words.specs.Gates.{AreToldPairs, HasGate, IsToldFunction}
 use Rattle.command_words.specs.Limits.{AreEndsOfDepths, generated_sites, generator_number, node_limit, refine_depth, thermal_energy, worker_count}
-use Rattle.command_words.specs.Options.{IsBase, IsChoice, IsNumber, IsRead}
+use Rattle.command_words.specs.Options.{IsBase, IsChoice, IsOptionNumber, IsReadWhereGiven}
 use Rattle.command_words.specs.Settings.{HasNeeds, HasRegionNeeds, IsSettingsOf, form_name, task_name}
 use Rattle.clap.proofs.OnLiterals.{clap_on_literals}
 use Rattle.command_words.specs.Command.{sidb_command, matches_in}
@@ -36,38 +36,38 @@ no_unknown_task : (task : Task) → IsChoice task_name Ground (Some (codes "solv
 unfolding key task_by
 no_unknown_task task is = let none : ◌≡◌ {A = Option Task} None (Some task) = begins_a_task (codes "solve") task is in absurd (cc)
 
-no_unknown_form : (form : Form) → IsChoice form_name Sites (Some (codes "gds")) form → ⊥
+no_unknown_form : (form : InputForm) → IsChoice form_name Sites (Some (codes "gds")) form → ⊥
 unfolding key form_by
-no_unknown_form form is = let none : ◌≡◌ {A = Option Form} None (Some form) = begins_a_form (codes "gds") form is in absurd (cc)
+no_unknown_form form is = let none : ◌≡◌ {A = Option InputForm} None (Some form) = begins_a_form (codes "gds") form is in absurd (cc)
 
 no_preset_form_table : IsChoice form_name Sites None Table → ⊥
 no_preset_form_table e = absurd (cc)
 
-no_half_permittivity : IsNumber permittivity (Some (codes "0.5")) (pos 5000) → ⊥
+no_half_permittivity : IsOptionNumber permittivity (Some (codes "0.5")) (pos 5000) → ⊥
 no_half_permittivity read = omega (arith, ints, read.from)
 
-no_preset_of_the_gap : IsNumber level_depth None (pos 590000000000) → ⊥
+no_preset_of_the_gap : IsOptionNumber level_depth None (pos 590000000000) → ⊥
 no_preset_of_the_gap e = omega (arith, ints, e)
 
-no_preset_of_the_depth : IsNumber level_gap None (pos 320000000000) → ⊥
+no_preset_of_the_depth : IsOptionNumber level_gap None (pos 320000000000) → ⊥
 no_preset_of_the_depth e = omega (arith, ints, e)
 
-no_tenth_of_a_length : IsNumber screening_length None (pos 5000) → ⊥
+no_tenth_of_a_length : IsOptionNumber screening_length None (pos 5000) → ⊥
 no_tenth_of_a_length e = omega (arith, ints, e)
 
-no_limit_of_zero : IsWithin node_limit (pos 0) → ⊥
+no_limit_of_zero : IsInRangeOf node_limit (pos 0) → ⊥
 no_limit_of_zero within = omega (arith, ints, within.from)
 
-no_seventeen_workers : IsWithin worker_count (pos 17) → ⊥
+no_seventeen_workers : IsInRangeOf worker_count (pos 17) → ⊥
 no_seventeen_workers within = omega (arith, ints, within.to)
 
-no_tenth_of_a_millivolt : IsWithin thermal_energy (pos 100000000) → ⊥
+no_tenth_of_a_millivolt : IsInRangeOf thermal_energy (pos 100000000) → ⊥
 no_tenth_of_a_millivolt within = omega (arith, ints, within.from)
 
-no_sixty_five_sites : IsWithin generated_sites (pos 65) → ⊥
+no_sixty_five_sites : IsInRangeOf generated_sites (pos 65) → ⊥
 no_sixty_five_sites within = omega (arith, ints, within.to)
 
-no_number_of_64_bits : IsWithin generator_number (pos 9223372036854775808) → ⊥
+no_number_of_64_bits : IsInRangeOf generator_number (pos 9223372036854775808) → ⊥
 no_number_of_64_bits within = omega (arith, ints, within.to)
 
 no_range_turned : AreEndsOfDepths (pos 2) (pos 1) → ⊥
@@ -79,7 +79,7 @@ no_range_above_two_volts are = omega (arith, ints, are.to_within.to)
 no_range_of_one_word : (r : DepthRange) → AreDepths (codes "1") r → ⊥
 no_range_of_one_word r are = cc (are.words)
 
-no_range_that_is_not_told : (r : DepthRange) → IsRead AreDepths None (Some r) → ⊥
+no_range_that_is_not_told : (r : DepthRange) → IsReadWhereGiven AreDepths None (Some r) → ⊥
 no_range_that_is_not_told r is = is
 
 no_pairs_that_are_not_told : AreToldPairs 2 None (pair 0 3 ∷ []) → ⊥
@@ -109,7 +109,7 @@ no_truth_of_a_table needs = needs.no_table refl
 no_domain_without_grid : HasNeeds Domain (record domain_settings { gate = record wire_gate { grid = None } }) → ⊥
 no_domain_without_grid needs = needs.points refl
 
-no_refinement_of_seven : IsWithin refine_depth (pos 7) → ⊥
+no_refinement_of_seven : IsInRangeOf refine_depth (pos 7) → ⊥
 no_refinement_of_seven within = omega (arith, ints, within.to)
 
 no_region_without_grid : HasNeeds Region (record region_settings { gate = record wire_gate { grid = None } }) → ⊥
@@ -127,7 +127,7 @@ no_region_beyond a is needs =
     omega (arith, ints, to)
 
 -- what is not told is not there
-not_told : (r : Option DepthRange) → IsRead AreDepths None r → r ≡ None
+not_told : (r : Option DepthRange) → IsReadWhereGiven AreDepths None r → r ≡ None
 not_told None is = refl
 not_told (Some r) is = absurd is
 

@@ -5,11 +5,11 @@ use Rattle.gate_model.specs.declared.function.Function.{Function}
 use Rattle.gate_model.specs.declared.pairs.PairOf.{PairOf}
 use Rattle.gate_model.specs.Functions.{IsFunctionNamed}
 use Rattle.gate_model.specs.GridTexts.{IsGridText}
-use Rattle.gate_model.specs.Logic.{AreDistinct, IsLogic, Logic, logic_of}
+use Rattle.gate_model.specs.Logic.{HaveDistinctPlaces, IsLogic, Logic, logic_of}
 use Rattle.gate_model.specs.Pairs.{ArePairs}
 use Rattle.command_words.specs.declared.gate_settings.GateSettings.{GateSettings}
 use Rattle.command_words.specs.Gates.{AreToldPairs, HasGate, IsGateOf, IsToldFunction}
-use Rattle.command_words.specs.Options.{IsRead}
+use Rattle.command_words.specs.Options.{IsReadWhereGiven}
 use Rattle.command_words.proofs.Decided.{HasSomeOrNone}
 use Rattle.command_words.proofs.Readings.{some_read}
 use Rattle.command_words.proofs.GateLemmas.{ArePairsOnce, no_function, not_distinct}
@@ -21,7 +21,7 @@ pub record AreGateLaws : Type 0 where
   pub some_pairs : (most : ℕ) (text : List ℕ) → HasSomeOrNone (ArePairs most text)
   pub some_functions : (name : List ℕ) (inputs : ℕ) → HasSomeOrNone (IsFunctionNamed name inputs)
   pub some_grids : (text : List ℕ) → HasSomeOrNone (IsGridText text)
-  pub distinct : (inputs outputs : List PairOf) → AreDistinct inputs outputs ⊎ (AreDistinct inputs outputs → ⊥)
+  pub distinct : (inputs outputs : List PairOf) → HaveDistinctPlaces inputs outputs ⊎ (HaveDistinctPlaces inputs outputs → ⊥)
   pub gates : (gate : Logic) → IsLogic gate ⊎ (IsLogic gate → ⊥)
 
 module _ (laws : AreGateLaws) where
@@ -38,7 +38,7 @@ module _ (laws : AreGateLaws) where
       (some_read IsGridText laws.some_grids points)
       (laws.distinct inputs outputs)
     where
-      by : HasSomeOrNone (IsToldFunction (length inputs) name) → HasSomeOrNone (IsRead IsGridText points) → AreDistinct inputs outputs ⊎ (AreDistinct inputs outputs → ⊥) → HasSomeOrNone (IsGateOf input output name points)
+      by : HasSomeOrNone (IsToldFunction (length inputs) name) → HasSomeOrNone (IsReadWhereGiven IsGridText points) → HaveDistinctPlaces inputs outputs ⊎ (HaveDistinctPlaces inputs outputs → ⊥) → HasSomeOrNone (IsGateOf input output name points)
       by (inl (f, is)) (inl (a, on)) (inl distinct) = inl (
         record { inputs = inputs; outputs = outputs; function = f; grid = a },
         record { inputs = are; outputs = also; function = is; grid = on; distinct = distinct },

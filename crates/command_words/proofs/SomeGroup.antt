@@ -3,7 +3,7 @@ use Rattle.std.proofs.Common.{refl, ℕ, ℤ, pos, List, Option, Bool, codes, ar
 use Rattle.std.proofs.lemmas.Int.{ints}
 use Rattle.model_params.specs.declared.params.Params.{Params}
 use Rattle.model_params.specs.Quantities.{coulomb_number, level_depth, level_gap, permittivity, screening_length}
-use Rattle.model_params.specs.Params.{AreInRange}
+use Rattle.model_params.specs.Params.{AreParamsInRange}
 use Rattle.window_model.specs.Windows.{IsWindow}
 use Rattle.command_words.specs.declared.settings.GeneratedSettings.{GeneratedSettings}
 use Rattle.command_words.specs.declared.settings.LevelSettings.{LevelSettings}
@@ -12,7 +12,7 @@ use Rattle.command_words.specs.declared.settings.ReportSettings.{ReportSettings}
 use Rattle.command_words.specs.declared.settings.DepthRange.{DepthRange}
 use Rattle.command_words.specs.Depths.{AreDepths}
 use Rattle.command_words.specs.Limits.{AreGeneratedNumbers, AreSearchLimits, generated_sites, generator_number, node_limit, refine_depth, thermal_energy, window_width, worker_count}
-use Rattle.command_words.specs.Options.{IsBase, IsGiven, IsNumber, IsRead}
+use Rattle.command_words.specs.Options.{IsBase, IsGiven, IsOptionNumber, IsReadWhereGiven}
 use Rattle.command_words.specs.Settings.{AreGeneratedSettings, AreLevelSettings, AreParams, AreRegionSettings, AreReportSettings, AreSearchSettings}
 use Rattle.command_words.proofs.Decided.{Both, HasSomeOrNone, both, moved}
 use Rattle.command_words.proofs.Readings.{AreReadings, IsReadOnce, some_read}
@@ -21,9 +21,9 @@ use Rattle.command_words.proofs.SomeOption.{base_within, number_within, some_bas
 
 -- the parameters that these values of options give are in range
 params_in_range : (value : List ℕ → Option (List ℕ)) (coulomb eps lam depth gap : ℤ) (base : ℕ)
-    → IsNumber coulomb_number (value (codes "coulomb")) coulomb → IsNumber permittivity (value (codes "eps")) eps → IsNumber screening_length (value (codes "lambda")) lam
-    → IsNumber level_depth (value (codes "depth")) depth → IsNumber level_gap (value (codes "gap")) gap → IsBase (value (codes "base")) base
-    → AreInRange coulomb eps lam depth gap base
+    → IsOptionNumber coulomb_number (value (codes "coulomb")) coulomb → IsOptionNumber permittivity (value (codes "eps")) eps → IsOptionNumber screening_length (value (codes "lambda")) lam
+    → IsOptionNumber level_depth (value (codes "depth")) depth → IsOptionNumber level_gap (value (codes "gap")) gap → IsBase (value (codes "base")) base
+    → AreParamsInRange coulomb eps lam depth gap base
 params_in_range value coulomb eps lam depth gap base is_coulomb is_eps is_lam is_depth is_gap is_base =
     let bounds = base_within (value (codes "base")) base is_base in
     record {
@@ -37,7 +37,7 @@ params_in_range value coulomb eps lam depth gap base is_coulomb is_eps is_lam is
     }
 
 -- the same for the limits of a search
-limits_in_range : (value : List ℕ → Option (List ℕ)) (limit workers : ℕ) → IsNumber node_limit (value (codes "limit")) (pos limit) → IsNumber worker_count (value (codes "workers")) (pos workers)
+limits_in_range : (value : List ℕ → Option (List ℕ)) (limit workers : ℕ) → IsOptionNumber node_limit (value (codes "limit")) (pos limit) → IsOptionNumber worker_count (value (codes "workers")) (pos workers)
     → AreSearchLimits limit workers
 limits_in_range value limit workers is_limit is_workers = record {
   limit_within = number_within node_limit (value (codes "limit")) (pos limit) (omega (arith, ints)) (omega (arith, ints)) is_limit;
@@ -45,7 +45,7 @@ limits_in_range value limit workers is_limit is_workers = record {
 }
 
 -- the same for a generated layout
-generated_in_range : (value : List ℕ → Option (List ℕ)) (number sites : ℕ) → IsNumber generator_number (value (codes "number")) (pos number) → IsNumber generated_sites (value (codes "sites")) (pos sites)
+generated_in_range : (value : List ℕ → Option (List ℕ)) (number sites : ℕ) → IsOptionNumber generator_number (value (codes "number")) (pos number) → IsOptionNumber generated_sites (value (codes "sites")) (pos sites)
     → AreGeneratedNumbers number sites
 generated_in_range value number sites is_number is_sites = record {
   number_within = number_within generator_number (value (codes "number")) (pos number) (omega (arith, ints)) (omega (arith, ints)) is_number;
@@ -53,7 +53,7 @@ generated_in_range value number sites is_number is_sites = record {
 }
 
 -- the width of a window is in range
-window_in_range : (told : Option (List ℕ)) (width : ℤ) → IsNumber window_width told width → IsWindow width
+window_in_range : (told : Option (List ℕ)) (width : ℤ) → IsOptionNumber window_width told width → IsWindow width
 window_in_range told width is =
     let within = number_within window_width told width (omega (arith, ints)) (omega (arith, ints)) is in
     record { least = within.from; greatest = within.to }
@@ -61,27 +61,27 @@ window_in_range told width is =
 module _ (readings : AreReadings) (value : List ℕ → Option (List ℕ)) where
   -- the numbers of the options of the depth and the gap of the levels
   abbrev Levels : ℤ × ℤ → Type 0
-  Levels = Both (IsNumber level_depth (value (codes "depth"))) (IsNumber level_gap (value (codes "gap")))
+  Levels = Both (IsOptionNumber level_depth (value (codes "depth"))) (IsOptionNumber level_gap (value (codes "gap")))
 
   -- those of the Coulomb number, and the base
   abbrev Charges : ℤ × ℕ → Type 0
-  Charges = Both (IsNumber coulomb_number (value (codes "coulomb"))) (IsBase (value (codes "base")))
+  Charges = Both (IsOptionNumber coulomb_number (value (codes "coulomb"))) (IsBase (value (codes "base")))
 
   -- those of the permittivity and the screening length
   abbrev Lengths : ℤ × ℤ → Type 0
-  Lengths = Both (IsNumber permittivity (value (codes "eps"))) (IsNumber screening_length (value (codes "lambda")))
+  Lengths = Both (IsOptionNumber permittivity (value (codes "eps"))) (IsOptionNumber screening_length (value (codes "lambda")))
 
   -- the options give parameters, or give none
   pub some_params : HasSomeOrNone (AreParams value)
   some_params =
       moved (Both Lengths (Both Levels Charges)) (AreParams value) to back
       (both Lengths (Both Levels Charges)
-      (both (IsNumber permittivity (value (codes "eps"))) (IsNumber screening_length (value (codes "lambda")))
+      (both (IsOptionNumber permittivity (value (codes "eps"))) (IsOptionNumber screening_length (value (codes "lambda")))
       (some_number readings permittivity (value (codes "eps"))) (some_number readings screening_length (value (codes "lambda"))))
       (both Levels Charges
-      (both (IsNumber level_depth (value (codes "depth"))) (IsNumber level_gap (value (codes "gap")))
+      (both (IsOptionNumber level_depth (value (codes "depth"))) (IsOptionNumber level_gap (value (codes "gap")))
       (some_number readings level_depth (value (codes "depth"))) (some_number readings level_gap (value (codes "gap"))))
-      (both (IsNumber coulomb_number (value (codes "coulomb"))) (IsBase (value (codes "base")))
+      (both (IsOptionNumber coulomb_number (value (codes "coulomb"))) (IsBase (value (codes "base")))
       (some_number readings coulomb_number (value (codes "coulomb"))) (some_base (value (codes "base"))))))
     where
       to : (x : (ℤ × ℤ) × ((ℤ × ℤ) × (ℤ × ℕ))) → Both Lengths (Both Levels Charges) x → (p : Params) × AreParams value p
@@ -106,13 +106,13 @@ module _ (readings : AreReadings) (value : List ℕ → Option (List ℕ)) where
 
   -- the numbers of the options of a search
   abbrev Counts : ℕ × ℕ → Type 0
-  Counts = Both (λ n. IsNumber node_limit (value (codes "limit")) (pos n)) (λ n. IsNumber worker_count (value (codes "workers")) (pos n))
+  Counts = Both (λ n. IsOptionNumber node_limit (value (codes "limit")) (pos n)) (λ n. IsOptionNumber worker_count (value (codes "workers")) (pos n))
 
   -- the options give limits of a search, or give none
   pub some_search : HasSomeOrNone (AreSearchSettings value)
   some_search =
       moved Counts (AreSearchSettings value) to back
-      (both (λ n. IsNumber node_limit (value (codes "limit")) (pos n)) (λ n. IsNumber worker_count (value (codes "workers")) (pos n))
+      (both (λ n. IsOptionNumber node_limit (value (codes "limit")) (pos n)) (λ n. IsOptionNumber worker_count (value (codes "workers")) (pos n))
       (some_count readings node_limit 1000000 refl (value (codes "limit"))) (some_count readings worker_count 4 refl (value (codes "workers"))))
     where
       to : (x : ℕ × ℕ) → Counts x → (s : SearchSettings) × AreSearchSettings value s
@@ -142,18 +142,18 @@ module _ (readings : AreReadings) (value : List ℕ → Option (List ℕ)) where
 
   -- the window, and what lists are weighed by
   abbrev Around : ℤ × ℤ → Type 0
-  Around = Both (IsNumber window_width (value (codes "window"))) (IsNumber thermal_energy (value (codes "kt")))
+  Around = Both (IsOptionNumber window_width (value (codes "window"))) (IsOptionNumber thermal_energy (value (codes "kt")))
 
   -- the range
   abbrev Ranged : Option DepthRange → Type 0
-  Ranged = IsRead AreDepths (value (codes "range"))
+  Ranged = IsReadWhereGiven AreDepths (value (codes "range"))
 
   -- the options give these, or give none
   pub some_levels : IsReadOnce → HasSomeOrNone (AreLevelSettings value)
   some_levels once =
       moved (Both Around Ranged) (AreLevelSettings value) to back
       (both Around Ranged
-      (both (IsNumber window_width (value (codes "window"))) (IsNumber thermal_energy (value (codes "kt")))
+      (both (IsOptionNumber window_width (value (codes "window"))) (IsOptionNumber thermal_energy (value (codes "kt")))
       (some_number readings window_width (value (codes "window"))) (some_number readings thermal_energy (value (codes "kt"))))
       (some_read AreDepths (some_depths readings once) (value (codes "range"))))
     where
@@ -173,13 +173,13 @@ module _ (readings : AreReadings) (value : List ℕ → Option (List ℕ)) where
 
   -- the numbers of the options of a generated layout
   abbrev Generated : ℕ × ℕ → Type 0
-  Generated = Both (λ n. IsNumber generator_number (value (codes "number")) (pos n)) (λ n. IsNumber generated_sites (value (codes "sites")) (pos n))
+  Generated = Both (λ n. IsOptionNumber generator_number (value (codes "number")) (pos n)) (λ n. IsOptionNumber generated_sites (value (codes "sites")) (pos n))
 
   -- the options give a generated layout, or give none
   pub some_generated : HasSomeOrNone (AreGeneratedSettings value)
   some_generated =
       moved Generated (AreGeneratedSettings value) to back
-      (both (λ n. IsNumber generator_number (value (codes "number")) (pos n)) (λ n. IsNumber generated_sites (value (codes "sites")) (pos n))
+      (both (λ n. IsOptionNumber generator_number (value (codes "number")) (pos n)) (λ n. IsOptionNumber generated_sites (value (codes "sites")) (pos n))
       (some_count readings generator_number 0 refl (value (codes "number"))) (some_count readings generated_sites 40 refl (value (codes "sites"))))
     where
       to : (x : ℕ × ℕ) → Generated x → (g : GeneratedSettings) × AreGeneratedSettings value g
@@ -193,7 +193,7 @@ module _ (readings : AreReadings) (value : List ℕ → Option (List ℕ)) where
 
   -- the number of the option of tiles
   abbrev Refined : ℕ → Type 0
-  Refined n = IsNumber refine_depth (value (codes "refine")) (pos n)
+  Refined n = IsOptionNumber refine_depth (value (codes "refine")) (pos n)
 
   -- the option gives how finely tiles are cut, or gives none
   pub some_region : HasSomeOrNone (AreRegionSettings value)

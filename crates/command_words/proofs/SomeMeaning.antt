@@ -11,9 +11,9 @@ use Rattle.command_words.specs.declared.settings.RegionSettings.{RegionSettings}
 use Rattle.command_words.specs.declared.settings.ReportSettings.{ReportSettings}
 use Rattle.command_words.specs.declared.settings.Task.{Task}
 use Rattle.command_words.specs.declared.settings.Task.TheVariants.{Ground, Potentials, Certify, Check, Window, Occupation, Range, Gen, Truth, Domain, Region}
-use Rattle.command_words.specs.declared.settings.Form.{Form}
-use Rattle.command_words.specs.declared.settings.Form.TheVariants.{Sites, Sqd, Table}
-use Rattle.command_words.specs.Command.{refusals_of, value_of}
+use Rattle.command_words.specs.declared.settings.InputForm.{InputForm}
+use Rattle.command_words.specs.declared.settings.InputForm.TheVariants.{Sites, Sqd, Table}
+use Rattle.command_words.specs.Command.{refusals_of, option_text}
 use Rattle.gate_model.specs.Grids.{Axes, HasFarEnds}
 use Rattle.command_words.specs.Options.{IsChoice}
 use Rattle.command_words.specs.Gates.{AreGateSettings, HasGate}
@@ -30,7 +30,7 @@ some_decided None = inr (λ never. never refl)
 some_decided (Some a) = inl (λ e. cc)
 
 -- the form is a layout, or is a table
-layout_decided : (form : Form) → (form ≢ Table) ⊎ ((form ≢ Table) → ⊥)
+layout_decided : (form : InputForm) → (form ≢ Table) ⊎ ((form ≢ Table) → ⊥)
 layout_decided Sites = inl (λ e. cc)
 layout_decided Sqd = inl (λ e. cc)
 layout_decided Table = inr (λ never. never refl)
@@ -87,7 +87,7 @@ module _ (gates : AreGateLaws) (s : Settings) where
 
 module _ (readings : AreReadings) (once : IsReadOnce) (gates : AreGateLaws) (value : List ℕ → Option (List ℕ)) where
   -- the task and the form
-  abbrev Choices : Task × Form → Type 0
+  abbrev Choices : Task × InputForm → Type 0
   Choices = Both (IsChoice task_name Ground (value (codes "task"))) (IsChoice form_name Sites (value (codes "form")))
 
   -- the groups of what is searched
@@ -99,7 +99,7 @@ module _ (readings : AreReadings) (once : IsReadOnce) (gates : AreGateLaws) (val
   Beside = Both (AreGateSettings value) (Both (AreGeneratedSettings value) (Both (AreRegionSettings value) (AreReportSettings value)))
 
   -- all groups
-  abbrev Groups : (Task × Form) × ((Params × (SearchSettings × LevelSettings)) × (GateSettings × (GeneratedSettings × (RegionSettings × ReportSettings)))) → Type 0
+  abbrev Groups : (Task × InputForm) × ((Params × (SearchSettings × LevelSettings)) × (GateSettings × (GeneratedSettings × (RegionSettings × ReportSettings)))) → Type 0
   Groups = Both Choices (Both Searched Beside)
 
   -- the options have such values, or have none
@@ -119,13 +119,13 @@ module _ (readings : AreReadings) (once : IsReadOnce) (gates : AreGateLaws) (val
   some_all : HasSomeOrNone (AreGroups value)
   some_all = moved Groups (AreGroups value) to back some_groups
     where
-      to : (x : (Task × Form) × ((Params × (SearchSettings × LevelSettings)) × (GateSettings × (GeneratedSettings × (RegionSettings × ReportSettings))))) → Groups x → (s : Settings) × AreGroups value s
+      to : (x : (Task × InputForm) × ((Params × (SearchSettings × LevelSettings)) × (GateSettings × (GeneratedSettings × (RegionSettings × ReportSettings))))) → Groups x → (s : Settings) × AreGroups value s
       to ((task, form), ((params, (search, levels)), (gate, (generated, (region, report))))) ((is_task, is_form), ((are_params, (are_search, are_levels)), (is_gate, (are_generated, (are_region, are_report))))) = (
         record { task = task; form = form; params = params; search = search; report = report; levels = levels; gate = gate; generated = generated; region = region },
         record { task = is_task; form = is_form; params = are_params; search = are_search; report = are_report; levels = are_levels; gate = is_gate; generated = are_generated; region = are_region },
       )
 
-      back : (s : Settings) → AreGroups value s → (x : (Task × Form) × ((Params × (SearchSettings × LevelSettings)) × (GateSettings × (GeneratedSettings × (RegionSettings × ReportSettings))))) × Groups x
+      back : (s : Settings) → AreGroups value s → (x : (Task × InputForm) × ((Params × (SearchSettings × LevelSettings)) × (GateSettings × (GeneratedSettings × (RegionSettings × ReportSettings))))) × Groups x
       back s are = (
         ((s.task, s.form), ((s.params, (s.search, s.levels)), (s.gate, (s.generated, (s.region, s.report))))),
         ((are.task, are.form), ((are.params, (are.search, are.levels)), (are.gate, (are.generated, (are.region, are.report))))),
@@ -145,9 +145,9 @@ module _ (readings : AreReadings) (once : IsReadOnce) (gates : AreGateLaws) (val
 
 -- words mean settings, or mean none
 pub settings_or_none : AreReadings → IsReadOnce → AreGateLaws → AreGroupsOnce → (words : List (List ℕ)) → HasSomeOrNone (IsSettingsOf words)
-settings_or_none readings once gates one words = by (empty_decided (refusals_of words)) (some_settings readings once gates (value_of words) one)
+settings_or_none readings once gates one words = by (empty_decided (refusals_of words)) (some_settings readings once gates (option_text words) one)
   where
-    by : (refusals_of words ≡ []) ⊎ (refusals_of words ≡ [] → ⊥) → HasSomeOrNone (AreSettings (value_of words)) → HasSomeOrNone (IsSettingsOf words)
+    by : (refusals_of words ≡ []) ⊎ (refusals_of words ≡ [] → ⊥) → HasSomeOrNone (AreSettings (option_text words)) → HasSomeOrNone (IsSettingsOf words)
     by (inl taken) (inl (s, values)) = inl (s, record { taken = taken; values = values })
     by (inl taken) (inr never) = inr (λ s is. never s is.values)
     by (inr refused) values = inr (λ s is. refused is.taken)

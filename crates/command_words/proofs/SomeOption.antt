@@ -1,10 +1,10 @@
 -- an option has a meaning, or has none, and its numbers are in range
 use Rattle.std.proofs.Common.{◌≡◌, sym, refl, ap, subst, ℕ, ℤ, pos, ◌≤◌, ◌≤ℤ◌, List, ◌⊎◌, inl, inr, Option, None, Some, true, false, codes, arith}
 use Rattle.sidb_units.specs.declared.decimal_fault.DecFault.{DecFault}
-use Rattle.sidb_units.specs.Decimal.{HasFault, IsReadAs, value_of as value_read}
+use Rattle.sidb_units.specs.Decimal.{HasDecimalFault, IsReadAs, decimal_value as value_read}
 use Rattle.model_params.specs.declared.quantity.Quantity.{Quantity}
-use Rattle.model_params.specs.Quantities.{IsWithin}
-use Rattle.command_words.specs.Options.{IsBase, IsGiven, IsNumber}
+use Rattle.model_params.specs.Quantities.{IsInRangeOf}
+use Rattle.command_words.specs.Options.{IsBase, IsGiven, IsOptionNumber}
 use Rattle.command_words.proofs.Readings.{AreReadings}
 use Rattle.command_words.proofs.Decided.{HasSomeOrNone, moved, text_decided}
 
@@ -33,24 +33,24 @@ some_flag (Some text) = by (text_decided text (codes "true"))
 
 module _ (readings : AreReadings) (q : Quantity) where
   -- the number that an option gives, or none
-  pub some_number : (told : Option (List ℕ)) → HasSomeOrNone (IsNumber q told)
+  pub some_number : (told : Option (List ℕ)) → HasSomeOrNone (IsOptionNumber q told)
   some_number None = inl (q.preset, refl)
   some_number (Some text) = by (readings.some text q.places q.least q.greatest)
     where
-      by : ((v : ℤ) × IsReadAs text q.places q.least q.greatest v) ⊎ ((e : DecFault) × HasFault text q.places q.least q.greatest e) → HasSomeOrNone (IsNumber q (Some text))
+      by : ((v : ℤ) × IsReadAs text q.places q.least q.greatest v) ⊎ ((e : DecFault) × HasDecimalFault text q.places q.least q.greatest e) → HasSomeOrNone (IsOptionNumber q (Some text))
       by (inl read) = inl read
       by (inr (e, fault)) = inr (λ v read. readings.no_fault text q.places q.least q.greatest v e read fault)
 
   -- the same for a number that is counted
-  pub some_count : (preset : ℕ) → q.preset ≡ pos preset → (told : Option (List ℕ)) → HasSomeOrNone (λ n. IsNumber q told (pos n))
+  pub some_count : (preset : ℕ) → q.preset ≡ pos preset → (told : Option (List ℕ)) → HasSomeOrNone (λ n. IsOptionNumber q told (pos n))
   some_count preset is None = inl (preset, sym is)
   some_count preset is (Some text) =
-      moved (IsNumber q (Some text)) (λ n. IsNumber q (Some text) (pos n))
+      moved (IsOptionNumber q (Some text)) (λ n. IsOptionNumber q (Some text) (pos n))
       (λ v read. (value_read text read.digits q.places, subst (IsReadAs text q.places q.least q.greatest) read.value read))
       (λ n read. (pos n, read)) (some_number (Some text))
 
 -- a number of an option is in the range of its quantity
-pub number_within : (q : Quantity) (told : Option (List ℕ)) (v : ℤ) → q.least ≤ℤ q.preset → q.preset ≤ℤ q.greatest → IsNumber q told v → IsWithin q v
+pub number_within : (q : Quantity) (told : Option (List ℕ)) (v : ℤ) → q.least ≤ℤ q.preset → q.preset ≤ℤ q.greatest → IsOptionNumber q told v → IsInRangeOf q v
 number_within q None v from to is = record { from = rw is from; to = rw is to }
 number_within q (Some text) v from to read = record { from = read.from; to = read.to }
 

@@ -4,7 +4,7 @@ use Rattle.std.proofs.lemmas.Int.{ints}
 use Rattle.clap.specs.declared.error.kind.ErrorKind.TheVariants as kind
 use Rattle.clap.proofs.OnLiterals.{clap_on_literals}
 use Rattle.window_model.specs.declared.window.Window.{Window}
-use Rattle.gate_model.specs.Logic.{AllDiffer, AreDistinct}
+use Rattle.gate_model.specs.Logic.{AllDiffer, HaveDistinctPlaces}
 use Rattle.command_words.specs.declared.gate_settings.GateSettings.{GateSettings}
 use Rattle.command_words.specs.declared.settings.Settings.{Settings}
 use Rattle.clap.specs.Walk.{Text}
@@ -14,12 +14,12 @@ use Rattle.command_words.specs.declared.settings.LevelSettings.{LevelSettings}
 use Rattle.command_words.specs.declared.settings.RegionSettings.{RegionSettings}
 use Rattle.command_words.specs.declared.settings.SearchSettings.{SearchSettings}
 use Rattle.command_words.specs.declared.settings.Task.TheVariants.{Ground, Potentials, Certify, Check, Window as WindowTask, Occupation, Range, Gen, Truth, Domain, Region}
-use Rattle.command_words.specs.declared.settings.Form.TheVariants.{Sites}
-use Rattle.command_words.specs.Command.{sidb_command, refusals_of, matches_in, value_of}
+use Rattle.command_words.specs.declared.settings.InputForm.TheVariants.{Sites}
+use Rattle.command_words.specs.Command.{sidb_command, refusals_of, matches_in, option_text}
 use Rattle.command_words.specs.Depths.{AreDepths, IsDepth}
 use Rattle.command_words.specs.Gates.{HasGate}
 use Rattle.command_words.specs.Limits.{refine_depth}
-use Rattle.command_words.specs.Options.{IsChoice, IsNumber}
+use Rattle.command_words.specs.Options.{IsChoice, IsOptionNumber}
 use Rattle.command_words.specs.Settings.{AreGroups, HasRegionNeeds, HasTruthNeeds, IsSettingsOf, task_name}
 use Rattle.gate_model.proofs.StandardFacts.{far_ends, grid_text, named, of_one, one_digit, one_pair, other_pair, pair, two_by_two, wire_differs, wire_is_gate}
 use Rattle.model_params.proofs.StandardFacts.{preset as preset_params}
@@ -27,18 +27,18 @@ use Rattle.model_params.proofs.StandardFacts.{preset as preset_params}
 -- each row is one fact about the definition
 pub record Rows : Type 0 where
   pub no_words : refusals_of [] ≡ []
-  pub left_out : value_of [] (codes "eps") ≡ None
-  pub two_words : value_of (codes "--eps" ∷ codes "5" ∷ []) (codes "eps") ≡ Some (codes "5")
-  pub equals_sign : value_of (codes "--limit=2" ∷ []) (codes "limit") ≡ Some (codes "2")
+  pub left_out : option_text [] (codes "eps") ≡ None
+  pub two_words : option_text (codes "--eps" ∷ codes "5" ∷ []) (codes "eps") ≡ Some (codes "5")
+  pub equals_sign : option_text (codes "--limit=2" ∷ []) (codes "limit") ≡ Some (codes "2")
   pub equals_taken : refusals_of (codes "--limit=2" ∷ []) ≡ []
-  pub empty_value : value_of (codes "--limit=" ∷ []) (codes "limit") ≡ Some []
-  pub empty_word : value_of (codes "--limit" ∷ [] ∷ []) (codes "limit") ≡ Some []
+  pub empty_value : option_text (codes "--limit=" ∷ []) (codes "limit") ≡ Some []
+  pub empty_word : option_text (codes "--limit" ∷ [] ∷ []) (codes "limit") ≡ Some []
   pub empty_word_alone : refusals_of ([] ∷ []) ≡ kind.UnknownArgument ∷ []
   pub repeated : refusals_of (codes "--eps" ∷ codes "5" ∷ codes "--eps" ∷ codes "5" ∷ []) ≡ kind.ArgumentConflict ∷ []
   pub repeated_equals : refusals_of (codes "--eps=5" ∷ codes "--eps" ∷ codes "5" ∷ []) ≡ kind.ArgumentConflict ∷ []
   pub dash_value : refusals_of (codes "--depth" ∷ codes "-1" ∷ []) ≡ kind.UnknownArgument ∷ []
-  pub dash_equals : value_of (codes "--depth=-1" ∷ []) (codes "depth") ≡ Some (codes "-1")
-  pub dash_alone : value_of (codes "--task" ∷ codes "-" ∷ []) (codes "task") ≡ Some (codes "-")
+  pub dash_equals : option_text (codes "--depth=-1" ∷ []) (codes "depth") ≡ Some (codes "-1")
+  pub dash_alone : option_text (codes "--task" ∷ codes "-" ∷ []) (codes "task") ≡ Some (codes "-")
   pub no_value : refusals_of (codes "--eps" ∷ []) ≡ kind.InvalidValue ∷ []
   pub option_for_value : refusals_of (codes "--eps" ∷ codes "--gap" ∷ []) ≡ kind.InvalidValue ∷ []
   pub two_dashes : refusals_of (codes "--" ∷ []) ≡ []
@@ -47,15 +47,15 @@ pub record Rows : Type 0 where
   pub abbreviated : refusals_of (codes "--ep" ∷ codes "5" ∷ []) ≡ kind.UnknownArgument ∷ []
   pub longer_name : refusals_of (codes "--grids" ∷ codes "1" ∷ []) ≡ kind.UnknownArgument ∷ []
   pub no_grid_value : refusals_of (codes "--grid" ∷ []) ≡ kind.InvalidValue ∷ []
-  pub pairs_given : value_of (codes "--input=0:3,2:1" ∷ []) (codes "input") ≡ Some (codes "0:3,2:1")
-  pub flag_given : value_of (codes "--json" ∷ []) (codes "json") ≡ Some (codes "true")
-  pub flag_left_out : value_of [] (codes "energies") ≡ Some (codes "false")
+  pub pairs_given : option_text (codes "--input=0:3,2:1" ∷ []) (codes "input") ≡ Some (codes "0:3,2:1")
+  pub flag_given : option_text (codes "--json" ∷ []) (codes "json") ≡ Some (codes "true")
+  pub flag_left_out : option_text [] (codes "energies") ≡ Some (codes "false")
   pub repeated_flag : refusals_of (codes "--json" ∷ codes "--json" ∷ []) ≡ kind.ArgumentConflict ∷ []
   pub flag_with_value : refusals_of (codes "--json=true" ∷ []) ≡ kind.TooManyValues ∷ []
   pub help : refusals_of (codes "--help" ∷ []) ≡ kind.DisplayHelp ∷ []
   pub help_short : refusals_of (codes "-h" ∷ []) ≡ kind.DisplayHelp ∷ []
   pub help_word : refusals_of (codes "help" ∷ []) ≡ kind.UnknownArgument ∷ []
-  pub help_for_value : value_of (codes "--task" ∷ codes "help" ∷ []) (codes "task") ≡ Some (codes "help")
+  pub help_for_value : option_text (codes "--task" ∷ codes "help" ∷ []) (codes "task") ≡ Some (codes "help")
   pub version : refusals_of (codes "--version" ∷ []) ≡ kind.UnknownArgument ∷ []
   pub version_short : refusals_of (codes "-V" ∷ []) ≡ kind.UnknownArgument ∷ []
 
@@ -149,11 +149,11 @@ preset = record {
 }
 
 -- no places are all distinct
-none_differ : AreDistinct [] []
+none_differ : HaveDistinctPlaces [] []
 unfolding AllDiffer
 none_differ i j d before within same = omega (arith, within)
 
-pub preset_groups : AreGroups (value_of []) preset
+pub preset_groups : AreGroups (option_text []) preset
 unfolding clap_on_literals sidb_command matches_in
 preset_groups = record {
   task = refl;
@@ -228,7 +228,7 @@ range_words = codes "--task" ∷ codes "range" ∷ codes "--range" ∷ codes "0:
 abbrev pub range_settings : Settings
 range_settings = record preset { task = Range; levels = record preset_levels { range = Some zero_to_two } }
 
-pub range_groups : AreGroups (value_of range_words) range_settings
+pub range_groups : AreGroups (option_text range_words) range_settings
 unfolding clap_on_literals sidb_command matches_in
 range_groups = record {
   task = refl;
@@ -267,7 +267,7 @@ domain_words =
 abbrev pub domain_settings : Settings
 domain_settings = record preset { task = Domain; gate = wire_gate }
 
-pub domain_groups : AreGroups (value_of domain_words) domain_settings
+pub domain_groups : AreGroups (option_text domain_words) domain_settings
 unfolding clap_on_literals sidb_command matches_in
 domain_groups = record {
   task = refl;
@@ -299,7 +299,7 @@ domain_words_mean = record {
 }
 
 -- four times
-four_times : IsNumber refine_depth (Some (codes "4")) (pos 4)
+four_times : IsOptionNumber refine_depth (Some (codes "4")) (pos 4)
 four_times = record { digits = 1; numeral = one_digit 52 (omega arith) (omega arith); few = omega arith; value = refl; from = omega (arith, ints); to = omega (arith, ints) }
 
 -- the words of a region over that grid, and what they mean
@@ -315,7 +315,7 @@ region_settings = record preset {
   region = record { refine = 4; in_range = record { from = omega (arith, ints); to = omega (arith, ints) } };
 }
 
-pub region_groups : AreGroups (value_of region_words) region_settings
+pub region_groups : AreGroups (option_text region_words) region_settings
 unfolding clap_on_literals sidb_command matches_in
 region_groups = record {
   task = refl;

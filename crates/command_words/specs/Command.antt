@@ -48,5 +48,5 @@ unfoldable pub matches_in : List Text → List Row
 matches_in words = matches_of sidb_command (full_words words)
 
 -- the text that the words give to an option, if they give it
-abbrev pub value_of : List Text → Text → Option Text
-value_of words name = first_of name (matches_in words)
+abbrev pub option_text : List Text → Text → Option Text
+option_text words name = first_of name (matches_in words)

@@ -1,14 +1,10 @@
 -- ranges of depths: `A:B`, two decimals with A at most B
-use Rattle.std.specs.Prelude.{◌≡◌, ℤ, eqb, List, [], ◌∷◌}
-use Rattle.std.specs.List.{slice_split}
+use Rattle.std.specs.Prelude.{◌≡◌, ℤ, [], ◌∷◌}
+use Rattle.gate_model.specs.Pairs.{between_colons}
 use Rattle.clap.specs.Walk.{Text}
 use Rattle.sidb_units.specs.Decimal.{IsReadAs}
 use Rattle.model_params.specs.Quantities.{level_depth}
 use Rattle.command_words.specs.declared.settings.DepthRange.{DepthRange}
-
--- what stands between the colons of a text
-abbrev pub fields : Text → List Text
-fields text = slice_split (λ b. eqb b 58) text
 
 -- a word is a depth, in 10^-12 V
 abbrev pub IsDepth : Text → ℤ → Type 0
@@ -18,6 +14,6 @@ IsDepth word v = IsReadAs word level_depth.places level_depth.least level_depth.
 pub record AreDepths (text : Text) (r : DepthRange) : Type 0 where
   pub first : Text
   pub second : Text
-  pub words : fields text ≡ first ∷ second ∷ []
+  pub words : between_colons text ≡ first ∷ second ∷ []
   pub from : IsDepth first r.from
   pub to : IsDepth second r.to

@@ -1,7 +1,7 @@
 -- the ranges of numbers that options give, but for the parameters
 use Rattle.std.specs.Prelude.{ℕ, ℤ, pos, ◌≤ℤ◌}
 use Rattle.model_params.specs.declared.quantity.Quantity.{Quantity}
-use Rattle.model_params.specs.Quantities.{IsWithin, level_depth}
+use Rattle.model_params.specs.Quantities.{IsInRangeOf, level_depth}
 
 -- the most nodes of a search: from 1 to 10,000,000, else 1,000,000
 abbrev pub node_limit : Quantity
@@ -17,8 +17,8 @@ window_width = record { places = 12; least = pos 0; greatest = pos 2000000000000
 
 -- two depths of a level, in 10^-12 V, the lesser one first
 pub record AreEndsOfDepths (from to : ℤ) : Type 0 where
-  pub from_within : IsWithin level_depth from
-  pub to_within : IsWithin level_depth to
+  pub from_within : IsInRangeOf level_depth from
+  pub to_within : IsInRangeOf level_depth to
   pub in_order : from ≤ℤ to
 
 -- Boltzmann's constant times the temperature, in 10^-12 V: from 1 mV to 1 V, else 25 mV
@@ -49,10 +49,10 @@ refine_depth = record { places = 0; least = pos 0; greatest = pos 6; preset = po
 
 -- the numbers of a generated layout are in their ranges
 pub record AreGeneratedNumbers (number sites : ℕ) : Type 0 where
-  pub number_within : IsWithin generator_number (pos number)
-  pub sites_within : IsWithin generated_sites (pos sites)
+  pub number_within : IsInRangeOf generator_number (pos number)
+  pub sites_within : IsInRangeOf generated_sites (pos sites)
 
 -- the limits of a search are in their ranges
 pub record AreSearchLimits (limit workers : ℕ) : Type 0 where
-  pub limit_within : IsWithin node_limit (pos limit)
-  pub workers_within : IsWithin worker_count (pos workers)
+  pub limit_within : IsInRangeOf node_limit (pos limit)
+  pub workers_within : IsInRangeOf worker_count (pos workers)

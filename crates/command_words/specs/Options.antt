@@ -6,8 +6,8 @@ use Rattle.sidb_units.specs.Decimal.{IsReadAs}
 use Rattle.model_params.specs.declared.quantity.Quantity.{Quantity}
 
 -- the text that a borrowed text is
-abbrev pub text_of : Option (Bor Text) → Option Text
-text_of = option_map (λ text. text.now)
+abbrev pub borrowed_text : Option (Bor Text) → Option Text
+borrowed_text = option_map (λ text. text.now)
 
 -- the choice that a name makes; without a name it is the preset one
 abbrev pub IsChoice : {A : Type 0} → (A → Text) → A → Option Text → A → Type 0
@@ -24,12 +24,12 @@ abbrev pub IsGiven : Option Text → Bool → Type 0
 IsGiven told given = IsTrue given ↔ (told ≡ Some (codes "true"))
 
 -- a text is read, and without a text there is nothing
-abbrev pub IsRead : {A : Type 0} → (Text → A → Type 0) → Option Text → Option A → Type 0
-IsRead IsIt None None = ⊤
-IsRead IsIt (Some text) (Some a) = IsIt text a
-IsRead IsIt _ _ = ⊥
+abbrev pub IsReadWhereGiven : {A : Type 0} → (Text → A → Type 0) → Option Text → Option A → Type 0
+IsReadWhereGiven IsIt None None = ⊤
+IsReadWhereGiven IsIt (Some text) (Some a) = IsIt text a
+IsReadWhereGiven IsIt _ _ = ⊥
 
 -- the number that a decimal gives, times 10 ^ places; without a text it is the preset one
-abbrev pub IsNumber : Quantity → Option Text → ℤ → Type 0
-IsNumber q None v = v ≡ q.preset
-IsNumber q (Some text) v = IsReadAs text q.places q.least q.greatest v
+abbrev pub IsOptionNumber : Quantity → Option Text → ℤ → Type 0
+IsOptionNumber q None v = v ≡ q.preset
+IsOptionNumber q (Some text) v = IsReadAs text q.places q.least q.greatest v

@@ -6,16 +6,16 @@ use Rattle.model_params.specs.Quantities.{coulomb_number, level_depth, level_gap
 use Rattle.gate_model.specs.Grids.{Axes, HasFarEnds}
 use Rattle.command_words.specs.declared.settings.Task.{Task}
 use Rattle.command_words.specs.declared.settings.Task.TheVariants.{Ground, Potentials, Certify, Check, Window, Occupation, Range, Gen, Truth, Domain, Region}
-use Rattle.command_words.specs.declared.settings.Form.{Form}
-use Rattle.command_words.specs.declared.settings.Form.TheVariants.{Sites, Sqd, Table}
+use Rattle.command_words.specs.declared.settings.InputForm.{InputForm}
+use Rattle.command_words.specs.declared.settings.InputForm.TheVariants.{Sites, Sqd, Table}
 use Rattle.command_words.specs.declared.settings.SearchSettings.{SearchSettings}
 use Rattle.command_words.specs.declared.settings.GeneratedSettings.{GeneratedSettings}
 use Rattle.command_words.specs.declared.settings.LevelSettings.{LevelSettings}
 use Rattle.command_words.specs.declared.settings.RegionSettings.{RegionSettings}
 use Rattle.command_words.specs.declared.settings.ReportSettings.{ReportSettings}
 use Rattle.command_words.specs.declared.settings.Settings.{Settings}
-use Rattle.command_words.specs.Command.{refusals_of, value_of}
-use Rattle.command_words.specs.Options.{IsBase, IsChoice, IsGiven, IsNumber, IsRead}
+use Rattle.command_words.specs.Command.{refusals_of, option_text}
+use Rattle.command_words.specs.Options.{IsBase, IsChoice, IsGiven, IsOptionNumber, IsReadWhereGiven}
 use Rattle.command_words.specs.Depths.{AreDepths}
 use Rattle.command_words.specs.Gates.{AreGateSettings, HasGate}
 use Rattle.command_words.specs.Limits.{generated_sites, generator_number, node_limit, refine_depth, thermal_energy, window_width, worker_count}
@@ -35,39 +35,39 @@ task_name Domain = codes "domain"
 task_name Region = codes "region"
 
 -- the names of the forms
-abbrev pub form_name : Form → Text
+abbrev pub form_name : InputForm → Text
 form_name Sites = codes "sites"
 form_name Sqd = codes "sqd"
 form_name Table = codes "table"
 
 -- the parameters of potentials and levels are these values of their options
 pub record AreParams (value : Text → Option Text) (p : Params) : Type 0 where
-  pub coulomb : IsNumber coulomb_number (value (codes "coulomb")) p.coulomb
-  pub eps : IsNumber permittivity (value (codes "eps")) p.eps
-  pub lam : IsNumber screening_length (value (codes "lambda")) p.lam
-  pub depth : IsNumber level_depth (value (codes "depth")) p.depth
-  pub gap : IsNumber level_gap (value (codes "gap")) p.gap
+  pub coulomb : IsOptionNumber coulomb_number (value (codes "coulomb")) p.coulomb
+  pub eps : IsOptionNumber permittivity (value (codes "eps")) p.eps
+  pub lam : IsOptionNumber screening_length (value (codes "lambda")) p.lam
+  pub depth : IsOptionNumber level_depth (value (codes "depth")) p.depth
+  pub gap : IsOptionNumber level_gap (value (codes "gap")) p.gap
   pub base : IsBase (value (codes "base")) p.base
 
 -- the limits of the search are these values of their options
 pub record AreSearchSettings (value : Text → Option Text) (s : SearchSettings) : Type 0 where
-  pub limit : IsNumber node_limit (value (codes "limit")) (pos s.limit)
-  pub workers : IsNumber worker_count (value (codes "workers")) (pos s.workers)
+  pub limit : IsOptionNumber node_limit (value (codes "limit")) (pos s.limit)
+  pub workers : IsOptionNumber worker_count (value (codes "workers")) (pos s.workers)
 
 -- the window, the range, and what lists are weighed by are these values of their options
 pub record AreLevelSettings (value : Text → Option Text) (l : LevelSettings) : Type 0 where
-  pub window : IsNumber window_width (value (codes "window")) l.window.width
-  pub range : IsRead AreDepths (value (codes "range")) l.range
-  pub kt : IsNumber thermal_energy (value (codes "kt")) l.kt
+  pub window : IsOptionNumber window_width (value (codes "window")) l.window.width
+  pub range : IsReadWhereGiven AreDepths (value (codes "range")) l.range
+  pub kt : IsOptionNumber thermal_energy (value (codes "kt")) l.kt
 
 -- the numbers of a generated layout are these values of their options
 pub record AreGeneratedSettings (value : Text → Option Text) (g : GeneratedSettings) : Type 0 where
-  pub number : IsNumber generator_number (value (codes "number")) (pos g.number)
-  pub sites : IsNumber generated_sites (value (codes "sites")) (pos g.sites)
+  pub number : IsOptionNumber generator_number (value (codes "number")) (pos g.number)
+  pub sites : IsOptionNumber generated_sites (value (codes "sites")) (pos g.sites)
 
 -- how finely tiles are cut is this value of its option
 pub record AreRegionSettings (value : Text → Option Text) (r : RegionSettings) : Type 0 where
-  pub refine : IsNumber refine_depth (value (codes "refine")) (pos r.refine)
+  pub refine : IsOptionNumber refine_depth (value (codes "refine")) (pos r.refine)
 
 -- the settings of the report are these values of its flags
 pub record AreReportSettings (value : Text → Option Text) (r : ReportSettings) : Type 0 where
@@ -119,4 +119,4 @@ pub record AreSettings (value : Text → Option Text) (s : Settings) : Type 0 wh
 -- the words mean these settings: clap gives matches, and these are their values
 pub record IsSettingsOf (words : List Text) (s : Settings) : Type 0 where
   pub taken : refusals_of words ≡ []
-  pub values : AreSettings (value_of words) s
+  pub values : AreSettings (option_text words) s

@@ -1,17 +1,17 @@
 // The names that options give.
 ghost use Rattle.std.specs.Prelude.{ℕ, ◌≤◌, IfSome, IfNone};
 ghost use Rattle.command_words.specs.declared.settings.Task.{Task};
-ghost use Rattle.command_words.specs.declared.settings.Form.{Form};
-ghost use Rattle.command_words.specs.Options.{IsBase, IsChoice, IsGiven, text_of};
+ghost use Rattle.command_words.specs.declared.settings.InputForm.{InputForm};
+ghost use Rattle.command_words.specs.Options.{IsBase, IsChoice, IsGiven, borrowed_text};
 ghost use Rattle.command_words.specs.Settings.{form_name, task_name};
 
-use crate::{Form, Task};
+use crate::{InputForm, Task};
 
 /// The task that the name is of, or `Ground` where there is no name.
 pub fn task_in(given: Option<&str>) -> Option<Task>
-    ensures found { IfSome result (IsChoice task_name Task.Ground (text_of given.entry)) }
+    ensures found { IfSome result (IsChoice task_name Task.Ground (borrowed_text given.entry)) }
     ensures none { IfNone result ((task : Task)
-        → IsChoice task_name Task.Ground (text_of given.entry) task → ⊥) }
+        → IsChoice task_name Task.Ground (borrowed_text given.entry) task → ⊥) }
 {
     match given {
         None | Some("ground") => Some(Task::Ground),
@@ -30,23 +30,23 @@ pub fn task_in(given: Option<&str>) -> Option<Task>
 }
 
 /// The form that the name is of, or `Sites` where there is no name.
-pub fn form_in(given: Option<&str>) -> Option<Form>
-    ensures found { IfSome result (IsChoice form_name Form.Sites (text_of given.entry)) }
-    ensures none { IfNone result ((form : Form)
-        → IsChoice form_name Form.Sites (text_of given.entry) form → ⊥) }
+pub fn form_in(given: Option<&str>) -> Option<InputForm>
+    ensures found { IfSome result (IsChoice form_name InputForm.Sites (borrowed_text given.entry)) }
+    ensures none { IfNone result ((form : InputForm)
+        → IsChoice form_name InputForm.Sites (borrowed_text given.entry) form → ⊥) }
 {
     match given {
-        None | Some("sites") => Some(Form::Sites),
-        Some("sqd") => Some(Form::Sqd),
-        Some("table") => Some(Form::Table),
+        None | Some("sites") => Some(InputForm::Sites),
+        Some("sqd") => Some(InputForm::Sqd),
+        Some("table") => Some(InputForm::Table),
         Some(_) => None,
     }
 }
 
 /// The base that the text is, or 3 where there is no text.
 pub fn base_in(given: Option<&str>) -> Option<u64>
-    ensures found { IfSome result (IsBase (text_of given.entry)) }
-    ensures none { IfNone result ((base : ℕ) → IsBase (text_of given.entry) base → ⊥) }
+    ensures found { IfSome result (IsBase (borrowed_text given.entry)) }
+    ensures none { IfNone result ((base : ℕ) → IsBase (borrowed_text given.entry) base → ⊥) }
     ensures within { IfSome result (λ base. (2 ≤ base) × (base ≤ 3)) }
 {
     match given {
@@ -58,7 +58,7 @@ pub fn base_in(given: Option<&str>) -> Option<u64>
 
 /// Whether the flag was given, of which the text tells.
 pub fn is_given(told: Option<&str>) -> bool
-    ensures { IsGiven (text_of told.entry) result }
+    ensures { IsGiven (borrowed_text told.entry) result }
 {
     match told {
         Some(text) => text == "true",

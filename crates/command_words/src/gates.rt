@@ -7,7 +7,7 @@ ghost use Rattle.gate_model.specs.Grids.{Axes};
 ghost use Rattle.gate_model.specs.GridTexts.{IsGridText};
 ghost use Rattle.command_words.specs.declared.gate_settings.GateSettings.{GateSettings};
 ghost use Rattle.command_words.specs.Gates.{AreGateSettings, AreToldPairs, HasGate, IsGateOf, IsToldFunction};
-ghost use Rattle.command_words.specs.Options.{IsRead, text_of};
+ghost use Rattle.command_words.specs.Options.{IsReadWhereGiven, borrowed_text};
 
 use crate::GateSettings;
 use clap::ArgMatches;
@@ -20,9 +20,10 @@ use std::alloc::Global;
 
 /// The pairs that the text is, or none where there is no text.
 fn pairs_in(alloc: Global, given: Option<&str>, most: usize) -> Result<Option<PairList>, Memory>
-    ensures found { IfOk result (λ read. IfSome read (AreToldPairs most (text_of given.entry))) }
+    ensures found { IfOk result (λ read. IfSome read
+        (AreToldPairs most (borrowed_text given.entry))) }
     ensures none { IfOk result (λ read. IfNone read ((pairs : List PairOf)
-        → AreToldPairs most (text_of given.entry) pairs → ⊥)) }
+        → AreToldPairs most (borrowed_text given.entry) pairs → ⊥)) }
 {
     match given {
         None => Ok(Some(PairList::new(alloc))),
@@ -32,9 +33,9 @@ fn pairs_in(alloc: Global, given: Option<&str>, most: usize) -> Result<Option<Pa
 
 /// The function of so many inputs that the name is of, or none where there is no name.
 fn function_in(given: Option<&str>, inputs: u64) -> Option<Option<Function>>
-    ensures found { IfSome result (IsToldFunction inputs (text_of given.entry)) }
+    ensures found { IfSome result (IsToldFunction inputs (borrowed_text given.entry)) }
     ensures none { IfNone result ((f : Option Function)
-        → IsToldFunction inputs (text_of given.entry) f → ⊥) }
+        → IsToldFunction inputs (borrowed_text given.entry) f → ⊥) }
 {
     match given {
         None => Some(None),
@@ -47,9 +48,9 @@ fn function_in(given: Option<&str>, inputs: u64) -> Option<Option<Function>>
 
 /// The grid that the text is, or none where there is no text.
 fn grid_in(given: Option<&str>) -> Option<Option<Grid>>
-    ensures found { IfSome result (IsRead IsGridText (text_of given.entry)) }
+    ensures found { IfSome result (IsReadWhereGiven IsGridText (borrowed_text given.entry)) }
     ensures none { IfNone result ((a : Option Axes)
-        → IsRead IsGridText (text_of given.entry) a → ⊥) }
+        → IsReadWhereGiven IsGridText (borrowed_text given.entry) a → ⊥) }
 {
     match given {
         None => Some(None),
@@ -86,11 +87,12 @@ fn gate_of(
     name: Option<&str>,
     points: Option<&str>,
 ) -> Result<Option<GateSettings>, Memory>
-    ensures found { IfOk result (λ read. IfSome read (IsGateOf (text_of input.entry)
-        (text_of output.entry) (text_of name.entry) (text_of points.entry))) }
+    ensures found { IfOk result (λ read. IfSome read (IsGateOf (borrowed_text input.entry)
+        (borrowed_text output.entry) (borrowed_text name.entry) (borrowed_text points.entry))) }
     ensures none { IfOk result (λ read. IfNone read ((g : GateSettings)
-        → IsGateOf (text_of input.entry) (text_of output.entry) (text_of name.entry)
-        (text_of points.entry) g → ⊥)) }
+        → IsGateOf (borrowed_text input.entry) (borrowed_text output.entry)
+        (borrowed_text name.entry)
+        (borrowed_text points.entry) g → ⊥)) }
 {
     one_pair_list();
     let Some(inputs) = pairs_in(alloc, input, 2)? else {

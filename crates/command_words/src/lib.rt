@@ -15,7 +15,7 @@ mod words;
 pub use gate_settings::GateSettings;
 pub use model_params::Params;
 pub use settings::{
-    DepthRange, Form, GeneratedSettings, LevelSettings, RegionSettings, ReportSettings,
+    DepthRange, GeneratedSettings, InputForm, LevelSettings, RegionSettings, ReportSettings,
     SearchSettings, Settings, Task,
 };
 pub use words::read_words;

@@ -1,7 +1,7 @@
 // The numbers that options give.
 ghost use Rattle.std.specs.Prelude.{◌≡◌, ◌≤◌, ◌≤ℤ◌, ℕ, ℤ, pos, IfSome, IfNone};
-ghost use Rattle.model_params.specs.Quantities.{IsWithin};
-ghost use Rattle.command_words.specs.Options.{IsNumber, text_of};
+ghost use Rattle.model_params.specs.Quantities.{IsInRangeOf};
+ghost use Rattle.command_words.specs.Options.{IsOptionNumber, borrowed_text};
 
 use model_params::Quantity;
 use sidb_units::read_dec;
@@ -66,10 +66,11 @@ pub const REFINE_DEPTH: Quantity = Quantity {
 pub fn number_in(given: Option<&str>, quantity: &Quantity) -> Option<i64>
     requires places { quantity.now.places ≤ 12 }
     requires least { pos 0 ≤ℤ quantity.now.least }
-    requires preset { IsWithin quantity.now quantity.now.preset }
-    ensures found { IfSome result (IsNumber quantity.now (text_of given.entry)) }
-    ensures none { IfNone result ((v : ℤ) → IsNumber quantity.now (text_of given.entry) v → ⊥) }
-    ensures within { IfSome result (IsWithin quantity.now) }
+    requires preset { IsInRangeOf quantity.now quantity.now.preset }
+    ensures found { IfSome result (IsOptionNumber quantity.now (borrowed_text given.entry)) }
+    ensures none { IfNone result ((v : ℤ)
+        → IsOptionNumber quantity.now (borrowed_text given.entry) v → ⊥) }
+    ensures within { IfSome result (IsInRangeOf quantity.now) }
 {
     match given {
         Some(text) => read_dec(
@@ -87,11 +88,12 @@ pub fn number_in(given: Option<&str>, quantity: &Quantity) -> Option<i64>
 pub fn count_in(given: Option<&str>, quantity: &Quantity) -> Option<u64>
     requires places { quantity.now.places ≤ 12 }
     requires least { pos 0 ≤ℤ quantity.now.least }
-    requires preset { IsWithin quantity.now quantity.now.preset }
-    ensures found { IfSome result (λ n. IsNumber quantity.now (text_of given.entry) (pos n)) }
+    requires preset { IsInRangeOf quantity.now quantity.now.preset }
+    ensures found { IfSome result (λ n. IsOptionNumber quantity.now (borrowed_text given.entry)
+        (pos n)) }
     ensures none { IfNone result ((n : ℕ)
-        → IsNumber quantity.now (text_of given.entry) (pos n) → ⊥) }
-    ensures within { IfSome result (λ n. IsWithin quantity.now (pos n)) }
+        → IsOptionNumber quantity.now (borrowed_text given.entry) (pos n) → ⊥) }
+    ensures within { IfSome result (λ n. IsInRangeOf quantity.now (pos n)) }
 {
     Some(number_in(given, quantity)? as u64)
 }

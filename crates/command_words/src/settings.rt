@@ -1,5 +1,5 @@
 ghost use Rattle.std.specs.Prelude.{pos};
-ghost use Rattle.model_params.specs.Quantities.{IsWithin};
+ghost use Rattle.model_params.specs.Quantities.{IsInRangeOf};
 ghost use Rattle.command_words.specs.Limits.{AreEndsOfDepths, AreGeneratedNumbers, AreSearchLimits, refine_depth, thermal_energy};
 
 use crate::GateSettings;
@@ -35,7 +35,7 @@ pub enum Task {
 
 /// The form of a run's input.
 #[derive(Clone, Copy, Debug, PartialEq, Eq)]
-pub enum Form {
+pub enum InputForm {
     /// A sites text.
     Sites,
     /// A text in the manner of SiQAD.
@@ -73,7 +73,7 @@ pub struct LevelSettings {
     pub range: Option<DepthRange>,
     /// Boltzmann's constant times the temperature, in 10^-12 V.
     pub kt: i64,
-    ghost kt_in_range: { IsWithin thermal_energy kt },
+    ghost kt_in_range: { IsInRangeOf thermal_energy kt },
 }
 
 /// Which layout is generated.
@@ -91,7 +91,7 @@ pub struct GeneratedSettings {
 pub struct RegionSettings {
     /// How often an undecided rectangle may be quartered.
     pub refine: u64,
-    ghost in_range: { IsWithin refine_depth (pos refine) },
+    ghost in_range: { IsInRangeOf refine_depth (pos refine) },
 }
 
 /// What a report has, and how it is written.
@@ -107,7 +107,7 @@ pub struct ReportSettings {
 #[derive(Drop)]
 pub struct Settings {
     pub task: Task,
-    pub form: Form,
+    pub form: InputForm,
     pub params: Params,
     pub search: SearchSettings,
     pub report: ReportSettings,

@@ -10,7 +10,7 @@ use crate::command::simple_command;
 use crate::gates::{gate_in, has_gate};
 use crate::groups::{generated_in, levels_in, params_in, region_in, report_in, search_in};
 use crate::laws::one_groups;
-use crate::{Form, GateSettings, Settings, Task};
+use crate::{GateSettings, InputForm, Settings, Task};
 use clap::ArgMatches;
 use clap::error::ErrorKind;
 use sidb_units::{Memory, WordList};
@@ -39,7 +39,7 @@ fn has_truth_needs(alloc: Global, settings: &Settings) -> Result<bool, Memory>
     ensures { IfOk result (λ has. MatchBool has (HasTruthNeeds settings.now)
         (HasTruthNeeds settings.now → ⊥)) }
 {
-    if settings.form == Form::Table {
+    if settings.form == InputForm::Table {
         return Ok(false);
     }
     has_gate(alloc, &settings.gate)

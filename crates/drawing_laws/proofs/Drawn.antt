@@ -12,7 +12,7 @@ use Rattle.sidb_layout.specs.declared.fault.LayoutFault.TheVariants as refusals
 use Rattle.sidb_layout.specs.Site.{IsInRange, places_of, origin}
 use Rattle.sidb_layout.specs.Lattice.{silicon, squared_distance}
 use Rattle.sidb_layout.specs.Layout.{Arrangement}
-use Rattle.sidb_layout.specs.Refusal.{IsTooClose, IsFirstOutOfRange, IsFirstPair, AreDistinct, IsMadeOf, IsRefusal}
+use Rattle.sidb_layout.specs.Refusal.{IsTooClose, IsFirstOutOfRange, IsFirstPair, AreDistinct, IsMadeOf, IsLayoutRefusal}
 use Rattle.sqd_dots.specs.declared.drawing.Dot.{Dot}
 use Rattle.sqd_dots.specs.Drawings.{IsDrawing, IsDrawingFault}
 use Rattle.sqd_layout.specs.SqdFault.{SqdFault}
@@ -25,8 +25,8 @@ SomeReading = (text : List ℕ) → ((dots : List Dot) × (skipped : ℕ) × IsD
 
 abbrev pub IsMadeOrRefused : Lattice → List Site → List Fix → Type 0
 IsMadeOrRefused v sites fixes =
-    ((p : Arrangement) × IsMadeOf v sites fixes p × ((f : LayoutFault) → IsRefusal v sites fixes f → ⊥))
-    ⊎ ((f : LayoutFault) × IsRefusal v sites fixes f)
+    ((p : Arrangement) × IsMadeOf v sites fixes p × ((f : LayoutFault) → IsLayoutRefusal v sites fixes f → ⊥))
+    ⊎ ((f : LayoutFault) × IsLayoutRefusal v sites fixes f)
 
 abbrev pub MadeOrRefused : Type 0
 MadeOrRefused = (v : Lattice) (sites : List Site) (fixes : List Fix) → IsMadeOrRefused v sites fixes
@@ -72,7 +72,7 @@ never_close roomy sites i j all distinct f =
     omega (arith, far, f.earliest.related)
 
 -- a refusal of the sites of dots is a fault of the dots
-dots_fault : IsRoomy → (dots : List Dot) (r : LayoutFault) → IsRefusal silicon (sites_in dots) [] r → (f : SqdFault) × IsDotsFault dots f
+dots_fault : IsRoomy → (dots : List Dot) (r : LayoutFault) → IsLayoutRefusal silicon (sites_in dots) [] r → (f : SqdFault) × IsDotsFault dots f
 dots_fault roomy dots (refusals.OutOfRange i) h = let at = begins_outside dots i h in (OutOfRange at.0, (i, at.1, h))
 dots_fault roomy dots refusals.TooMany h = (TooMany, h)
 dots_fault roomy dots refusals.TooManyFixes h = absurd (omega (arith, h.2))

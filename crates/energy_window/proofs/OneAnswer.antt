@@ -3,7 +3,7 @@ use Rattle.std.proofs.Common.{◌≡◌, ℕ, ℤ, List, refl, ap, ◌⊎◌, in
 use Rattle.charge_model.specs.Problem.{Problem}
 use Rattle.charge_model.specs.GroundList.{Entry}
 use Rattle.window_model.specs.Windows.{IsMarkedWindowList}
-use Rattle.ground_state.specs.Window.{IsWindowListedWithin, IsWindowWithinBudget, IsWindowOverBudget, IsWindowTooLongWithin}
+use Rattle.ground_state.specs.Window.{IsWindowListedWithin, IsWindowWithinLimit, IsWindowOverLimit, IsWindowTooLongWithin}
 use Rattle.energy_window.specs.declared.answer.WindowAnswer.{WindowAnswer}
 use Rattle.energy_window.specs.declared.answer.WindowAnswer.TheVariants.{List as Listed, Budget, ListTooLong, Memory}
 use Rattle.energy_window.specs.Answers.{IsWindowAnswer, IfWindowListed}
@@ -12,7 +12,7 @@ use Rattle.energy_window.specs.Answers.{IsWindowAnswer, IfWindowListed}
 pub record AreApart (p : Problem) (window : ℤ) (limit : ℕ) : Type 0 where
   pub one : (es fs : List Entry) → IsWindowListedWithin p window limit es → IsWindowListedWithin p window limit fs → es ≡ fs
   pub length : (es : List Entry) → IsWindowListedWithin p window limit es → IsWindowTooLongWithin p window limit → ⊥
-  pub budget : IsWindowWithinBudget p window limit → IsWindowOverBudget p window limit → ⊥
+  pub budget : IsWindowWithinLimit p window limit → IsWindowOverLimit p window limit → ⊥
 
 pub one : (p : Problem) (window : ℤ) (limit : ℕ) → AreApart p window limit → (a b : WindowAnswer) → IsWindowAnswer p window limit a → IsWindowAnswer p window limit b
     → (a ≡ b) ⊎ ((a ≡ Memory) ⊎ (b ≡ Memory))

@@ -2,14 +2,14 @@
 use Rattle.std.specs.Prelude.{ℕ, ℤ, List}
 use Rattle.charge_model.specs.Problem.{Problem}
 use Rattle.charge_model.specs.GroundList.{Entry}
-use Rattle.ground_state.specs.Window.{IsWindowListedWithin, IsWindowOverBudget, IsWindowTooLongWithin}
+use Rattle.ground_state.specs.Window.{IsWindowListedWithin, IsWindowOverLimit, IsWindowTooLongWithin}
 use Rattle.energy_window.specs.declared.answer.WindowAnswer.{WindowAnswer}
 use Rattle.energy_window.specs.declared.answer.WindowAnswer.TheVariants.{List as Listed, Budget, ListTooLong, Memory}
 
 -- what each answer says
 abbrev pub IsWindowAnswer : Problem → ℤ → ℕ → WindowAnswer → Type 0
 IsWindowAnswer p window limit (Listed es) = IsWindowListedWithin p window limit es
-IsWindowAnswer p window limit Budget = IsWindowOverBudget p window limit
+IsWindowAnswer p window limit Budget = IsWindowOverLimit p window limit
 IsWindowAnswer p window limit ListTooLong = IsWindowTooLongWithin p window limit
 IsWindowAnswer p window limit Memory = Unit {0}
 

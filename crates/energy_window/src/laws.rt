@@ -2,7 +2,7 @@
 ghost use Rattle.std.specs.Prelude.{◌≡◌, ◌↔◌, ◌⊎◌, pos, ℕ, ℤ, List};
 ghost use Rattle.charge_model.specs.Problem.{Problem};
 ghost use Rattle.charge_model.specs.GroundList.{Entry};
-ghost use Rattle.ground_state.specs.Answer.{IsListedWithin, IsOverBudget, IsTooLongWithin};
+ghost use Rattle.ground_state.specs.Answer.{IsListedWithin, IsOverLimit, IsTooLongWithin};
 ghost use Rattle.energy_window.specs.declared.answer.WindowAnswer.{WindowAnswer};
 ghost use Rattle.energy_window.specs.declared.answer.WindowAnswer.TheVariants.{List as Listed, Budget, ListTooLong, Memory};
 ghost use Rattle.energy_window.specs.Answers.{IsWindowAnswer};
@@ -19,12 +19,12 @@ pub fn one_answer()
 }
 
 /// With a window of 0 the answers are those of `ground_state::solve`: the ground list with its
-/// marks, or in the same cases that the budget does not suffice or that the list is too long.
+/// marks, or in the same cases that the limit does not suffice or that the list is too long.
 pub fn answers_at_zero_are_of_the_ground()
     ensures list { (p : Problem) (limit : ℕ) (es : List Entry)
         → IsWindowAnswer p (pos 0) limit (Listed es) ↔ IsListedWithin p limit es }
     ensures budget { (p : Problem) (limit : ℕ)
-        → IsWindowAnswer p (pos 0) limit Budget ↔ IsOverBudget p limit }
+        → IsWindowAnswer p (pos 0) limit Budget ↔ IsOverLimit p limit }
     ensures length { (p : Problem) (limit : ℕ)
         → IsWindowAnswer p (pos 0) limit ListTooLong ↔ IsTooLongWithin p limit }
 {

@@ -4,7 +4,7 @@ use Rattle.std.proofs.Common.{◌≡◌, pos, [], ◌∷◌, None, arith}
 use Rattle.std.proofs.lemmas.Int.{ints}
 use Rattle.charge_model.specs.declared.charge.Charge.TheVariants.{Neg, Neutral}
 use Rattle.charge_model.proofs.OneSite.{one_site, one_site_list, one_site_bound}
-use Rattle.entry_facts.specs.Energies.{IsListEnergy, IsEnergyOf, IsRaisedGap, LiesBelowBy}
+use Rattle.entry_facts.specs.Energies.{IsListEnergy, IsEnergyOfOneList, IsRaisedGap, LiesBelowBy}
 use Rattle.entry_facts.specs.Facts.{AreFacts, AreFactsOfEach}
 use Rattle.entry_facts.proofs.StandardFacts.{negative, negative_facts, no_energy}
 
@@ -20,7 +20,7 @@ no_other_greatest is =
     let none = no_energy is.greatest.reached.0 in
     omega (arith, ints, value, none)
 
-not_of_neutral : IsEnergyOf one_site (Neutral ∷ []) negative → ⊥
+not_of_neutral : IsEnergyOfOneList one_site (Neutral ∷ []) negative → ⊥
 not_of_neutral is = let same = is.charges in absurd cc
 
 has_a_mark : AreFacts one_site (record negative_facts { own = None }) → ⊥

@@ -10,7 +10,7 @@ use Rattle.charge_model.proofs.OneSite.{one_site, one_site_list, one_site_bound}
 use Rattle.linear_form.specs.Forms.{value_of}
 use Rattle.entry_facts.specs.declared.energy.ListEnergy.{ListEnergy}
 use Rattle.entry_facts.specs.declared.facts.EntryFacts.{EntryFacts}
-use Rattle.entry_facts.specs.Energies.{IsListEnergy, IsEnergyOf, IsRaisedGap}
+use Rattle.entry_facts.specs.Energies.{IsListEnergy, IsEnergyOfOneList, IsRaisedGap}
 use Rattle.entry_facts.specs.Facts.{AreFacts, AreFactsOf, AreFactsOfEach}
 
 abbrev pub negative : ListEnergy
@@ -44,7 +44,7 @@ negative_weighed =
       small = record { least = omega (arith, ints); greatest = omega (arith, ints) };
     }
 
-negative_energy : IsEnergyOf one_site (Neg ∷ []) negative
+negative_energy : IsEnergyOfOneList one_site (Neg ∷ []) negative
 negative_energy = record { energy = negative_weighed; charges = refl }
 
 pub negative_valid : IsCertainlyValid one_site (Neg ∷ [])

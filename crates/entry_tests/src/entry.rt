@@ -3,7 +3,7 @@ ghost use Rattle.charge_model.specs.Charges.{IsBefore};
 ghost use Rattle.charge_model.specs.Rules.{IsPossiblyValid};
 ghost use Rattle.charge_model.specs.GroundList.{lists_of};
 ghost use Rattle.window_model.specs.Windows.{IsMarkWithin};
-ghost use Rattle.entry_facts.specs.Facts.{AreFacts, AreFactsOfEach, charges_of};
+ghost use Rattle.entry_facts.specs.Facts.{AreFacts, AreFactsOfEach, lists_of_facts};
 ghost use Rattle.entry_tests.specs.Refusing.{Follows, AreTested, IsEntryTested};
 
 use crate::beaten::is_beaten;
@@ -44,7 +44,7 @@ fn is_before(a: &Charges, b: &Charges) -> bool
 fn follows(problem: &Problem, facts: &[EntryFacts], j: usize) -> bool
     requires facts { All (AreFacts problem.now) facts.now }
     requires entry { j < length facts.now }
-    ensures { IsTrue result ↔ Follows (charges_of facts.now) j }
+    ensures { IsTrue result ↔ Follows (lists_of_facts facts.now) j }
 {
     let _known = problem.sites();
     if j == 0 {
@@ -66,7 +66,7 @@ fn has_mark(
     requires entry { AreFacts problem.now entry.now }
     requires possible { IsPossiblyValid problem.now entry.now.list.charges }
     ensures { IfOk result (λ b. IsTrue b ↔ IsMarkWithin problem.now window.width
-        (charges_of facts.now) entry.now.list.charges mark) }
+        (lists_of_facts facts.now) entry.now.list.charges mark) }
 {
     one_marked_window_list();
     match entry.own {

@@ -6,13 +6,13 @@ use Rattle.std.specs.Int.{int_max, int_min}
 use mir.Val.{SFits}
 use borrow.Author.Differences.{le_out}
 use Rattle.charge_model.specs.declared.span.Span.{Span}
-use Rattle.fixed_enclosure.specs.Hull.{IsHull, IsProduct, IsSum, IsWithin}
+use Rattle.fixed_enclosure.specs.Hull.{IsHull, IsProduct, IsSum, IsInSpan}
 
 -- the ends of a span are numbers of it
-pub lo-within : (s : Span) → IsWithin s s.lo
+pub lo-within : (s : Span) → IsInSpan s s.lo
 lo-within s = record { from_lo = omega (arith, ints); to_hi = s.in_order }
 
-pub hi-within : (s : Span) → IsWithin s s.hi
+pub hi-within : (s : Span) → IsInSpan s s.hi
 hi-within s = record { from_lo = s.in_order; to_hi = omega (arith, ints) }
 
 pub sums_hull : (a b s : Span) → s.lo ≡ a.lo +ℤ b.lo → s.hi ≡ a.hi +ℤ b.hi → IsHull (IsSum a b) s

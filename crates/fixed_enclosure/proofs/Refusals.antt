@@ -1,13 +1,13 @@
 -- what is no number of a span, no sum and no least span
 use Rattle.std.proofs.Common.{pos, negsuc, refl, arith}
 use Rattle.std.proofs.lemmas.Int.{ints}
-use Rattle.fixed_enclosure.specs.Hull.{IsHull, IsProduct, IsSum, IsWithin}
+use Rattle.fixed_enclosure.specs.Hull.{IsHull, IsProduct, IsSum, IsInSpan}
 use Rattle.fixed_enclosure.proofs.StandardFacts.{small, span, wide}
 
-below_lo : IsWithin small (pos 0) → ⊥
+below_lo : IsInSpan small (pos 0) → ⊥
 below_lo is = omega (arith, ints, is.from_lo)
 
-above_hi : IsWithin small (pos 4) → ⊥
+above_hi : IsInSpan small (pos 4) → ⊥
 above_hi is = omega (arith, ints, is.to_hi)
 
 no_sum : IsSum small wide (pos 9) → ⊥

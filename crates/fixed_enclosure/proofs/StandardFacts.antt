@@ -2,7 +2,7 @@
 use Rattle.std.proofs.Common.{ℤ, pos, negsuc, ◌≤ℤ◌, refl, arith}
 use Rattle.std.proofs.lemmas.Int.{ints}
 use Rattle.charge_model.specs.declared.span.Span.{Span}
-use Rattle.fixed_enclosure.specs.Hull.{IsHull, IsProduct, IsSum, IsWithin}
+use Rattle.fixed_enclosure.specs.Hull.{IsHull, IsProduct, IsSum, IsInSpan}
 use Rattle.fixed_enclosure.proofs.HullLemmas.{products_hull, sums_hull}
 
 abbrev pub span : (lo hi : ℤ) → lo ≤ℤ hi → Span
@@ -15,7 +15,7 @@ small = span (pos 1) (pos 3) (omega (arith, ints))
 abbrev pub wide : Span
 wide = span (negsuc 1) (pos 5) (omega (arith, ints))
 
-two-within : IsWithin small (pos 2)
+two-within : IsInSpan small (pos 2)
 two-within = record { from_lo = omega (arith, ints); to_hi = omega (arith, ints) }
 
 small_and_wide : IsHull (IsSum small wide) (span (negsuc 0) (pos 8) (omega (arith, ints)))

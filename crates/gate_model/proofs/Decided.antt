@@ -2,7 +2,7 @@
 use Rattle.std.proofs.Common.{◌≡◌, refl, subst, ℕ, ℤ, pos, ◌<◌, ◌≤◌, List, [], ◌∷◌, ◌⊎◌, inl, inr, arith}
 use Rattle.std.proofs.lemmas.Bool.{cases_eq, cases_lt}
 use Rattle.sidb_units.specs.declared.decimal_fault.DecFault.{DecFault}
-use Rattle.sidb_units.specs.Decimal.{HasFault, IsReadAs, value_of as value_read}
+use Rattle.sidb_units.specs.Decimal.{HasDecimalFault, IsReadAs, decimal_value as value_read}
 
 -- some value has P, or no value has it
 abbrev pub HasSomeOrNone : {A : Type 0} → (A → Type 0) → Type 0
@@ -40,8 +40,8 @@ text_decided (a ∷ s) (b ∷ t) = by (cases_eq a b) (text_decided s t)
 
 -- a text is read as a number, or has a fault, and not both
 pub record AreReadings : Type 0 where
-  pub some : (text : List ℕ) (places : ℕ) (least greatest : ℤ) → ((v : ℤ) × IsReadAs text places least greatest v) ⊎ ((e : DecFault) × HasFault text places least greatest e)
-  pub no_fault : (text : List ℕ) (places : ℕ) (least greatest v : ℤ) (e : DecFault) → IsReadAs text places least greatest v → HasFault text places least greatest e → ⊥
+  pub some : (text : List ℕ) (places : ℕ) (least greatest : ℤ) → ((v : ℤ) × IsReadAs text places least greatest v) ⊎ ((e : DecFault) × HasDecimalFault text places least greatest e)
+  pub no_fault : (text : List ℕ) (places : ℕ) (least greatest v : ℤ) (e : DecFault) → IsReadAs text places least greatest v → HasDecimalFault text places least greatest e → ⊥
 
 -- the number of a text is counted
 pub as_count : (text : List ℕ) (places : ℕ) (least greatest v : ℤ) → IsReadAs text places least greatest v → (n : ℕ) × IsReadAs text places least greatest (pos n)
@@ -51,6 +51,6 @@ as_count text places least greatest v read = (value_read text read.digits places
 pub some_count : AreReadings → (text : List ℕ) (places : ℕ) (least greatest : ℤ) → HasSomeOrNone (λ n. IsReadAs text places least greatest (pos n))
 some_count readings text places least greatest = by (readings.some text places least greatest)
   where
-    by : ((v : ℤ) × IsReadAs text places least greatest v) ⊎ ((e : DecFault) × HasFault text places least greatest e) → HasSomeOrNone (λ n. IsReadAs text places least greatest (pos n))
+    by : ((v : ℤ) × IsReadAs text places least greatest v) ⊎ ((e : DecFault) × HasDecimalFault text places least greatest e) → HasSomeOrNone (λ n. IsReadAs text places least greatest (pos n))
     by (inl (v, read)) = inl (as_count text places least greatest v read)
     by (inr (e, fault)) = inr (λ n read. readings.no_fault text places least greatest (pos n) e read fault)

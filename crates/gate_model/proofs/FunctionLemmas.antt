@@ -1,7 +1,7 @@
 -- a name stands for one function of so many bits, and the function tells its name
 use Rattle.std.proofs.Common.{◌≡◌, ℕ, zero, suc, List, Some, slice_get}
 use Rattle.gate_model.specs.declared.function.Function.{Function}
-use Rattle.gate_model.specs.Functions.{name_by, names_of, table_of}
+use Rattle.gate_model.specs.Functions.{name_by, function_names, table_of}
 
 -- the function of so many bits with this number
 abbrev numbered : ℕ → ℕ → Function
@@ -9,7 +9,7 @@ numbered inputs n = record { inputs = inputs; table = table_of inputs n }
 
 -- the name at a place
 abbrev pub IsAt : ℕ → List ℕ → ℕ → Type 0
-IsAt inputs name n = slice_get (names_of inputs) n ≡ Some name
+IsAt inputs name n = slice_get (function_names inputs) n ≡ Some name
 
 told_one : (n : ℕ) (name : List ℕ) → IsAt 1 name n → name_by (numbered 1 n) ≡ name
 told_one zero name e = cc

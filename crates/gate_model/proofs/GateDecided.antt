@@ -3,7 +3,7 @@ use Rattle.std.proofs.Common.{◌≡◌, ℕ, zero, suc, ◌<◌, ◌≤◌, Lis
 use Rattle.std.specs.Prelude.{slice_index}
 use Rattle.std.proofs.lemmas.Bool.{cases_eq}
 use Rattle.gate_model.specs.declared.pairs.PairOf.{PairOf}
-use Rattle.gate_model.specs.Logic.{AllDiffer, AreDistinct, IsLogic, Logic, StandsBefore, places_in}
+use Rattle.gate_model.specs.Logic.{AllDiffer, HaveDistinctPlaces, IsLogic, Logic, StandsBefore, places_in}
 use Rattle.gate_model.proofs.GateLemmas.{DifferBelow, all_differ_below, not_all_differ}
 use Rattle.gate_model.proofs.Decided.{IsDecided, at_most_decided, both_decided}
 
@@ -51,7 +51,7 @@ differ_decided places = by (twice_or_not places (length places))
     by (inr below) = inl (all_differ_below places below)
 
 -- whether all places of the inputs and of the outputs are distinct
-pub distinct_decided : (inputs outputs : List PairOf) → IsDecided (AreDistinct inputs outputs)
+pub distinct_decided : (inputs outputs : List PairOf) → IsDecided (HaveDistinctPlaces inputs outputs)
 distinct_decided inputs outputs = differ_decided (places_in inputs ++ places_in outputs)
 
 -- as many pairs as a gate has
@@ -60,7 +60,7 @@ HasFitting gate = ((1 ≤ length gate.inputs) × (length gate.inputs ≤ 2)) × 
 
 -- what else a gate has
 abbrev HasRest : Logic → Type 0
-HasRest gate = (gate.function.inputs ≡ length gate.inputs) × AreDistinct gate.inputs gate.outputs
+HasRest gate = (gate.function.inputs ≡ length gate.inputs) × HaveDistinctPlaces gate.inputs gate.outputs
 
 -- whether pairs and a function make a gate
 pub gate_decided : (gate : Logic) → IsDecided (IsLogic gate)

@@ -9,8 +9,8 @@ use Rattle.model_params.specs.Quantities.{permittivity, screening_length}
 use Rattle.gate_model.specs.declared.TheConstants.{MAX_GRID_STEP}
 use Rattle.gate_model.specs.declared.grid.Axis.{Axis}
 use Rattle.gate_model.specs.Grids.{HasPointsIn, point_at}
-use Rattle.gate_model.specs.GridTexts.{AreNumbers, IsAxisText, IsCount, IsGridText, IsStart, IsStep}
-use Rattle.gate_model.specs.Pairs.{fields, parts}
+use Rattle.gate_model.specs.GridTexts.{AreNumbers, IsAxisText, IsCount, IsGridText, IsGridStart, IsGridStep}
+use Rattle.gate_model.specs.Pairs.{between_colons, parts}
 use Rattle.gate_model.proofs.PairLemmas.{IsReadOnce}
 use Rattle.gate_model.proofs.GridLemmas.{no_first_axis, no_numbers, no_second_axis, outside_text}
 use Rattle.gate_model.proofs.Decided.{AreReadings, HasSomeOrNone, IsDecided, as_count, some_count}
@@ -44,7 +44,7 @@ points_decided q counted s t n from some = by (cases_lt counted.greatest (s + t 
 
 module _ (readings : AreReadings) (once : IsReadOnce) (q : Quantity) (counted : IsCounted q) (part : List ℕ) where
   -- three words are some direction, or are none
-  three_words : (x y z : List ℕ) → fields part ≡ x ∷ y ∷ z ∷ [] → HasSomeOrNone (IsAxisText q part)
+  three_words : (x y z : List ℕ) → between_colons part ≡ x ∷ y ∷ z ∷ [] → HasSomeOrNone (IsAxisText q part)
   three_words x y z words = by (some_count readings x q.places q.least q.greatest) (some_count readings y 4 (pos 1) MAX_GRID_STEP) (some_count readings z 0 (pos 1) (pos MAX_GRID))
     where
       by_points : (s t n : ℕ) → AreNumbers q x y z (made s t n) → IsDecided (HasPointsIn q (made s t n)) → HasSomeOrNone (IsAxisText q part)
@@ -54,7 +54,7 @@ module _ (readings : AreReadings) (once : IsReadOnce) (q : Quantity) (counted : 
       )
       by_points s t n numbers (inr outside) = inr (outside_text once q part x y z words (made s t n) numbers outside)
 
-      by : HasSomeOrNone (λ n. IsStart q x (pos n)) → HasSomeOrNone (λ n. IsStep y (pos n)) → HasSomeOrNone (IsCount z) → HasSomeOrNone (IsAxisText q part)
+      by : HasSomeOrNone (λ n. IsGridStart q x (pos n)) → HasSomeOrNone (λ n. IsGridStep y (pos n)) → HasSomeOrNone (IsCount z) → HasSomeOrNone (IsAxisText q part)
       by (inl (s, is_start)) (inl (t, is_step)) (inl (n, is_count)) =
           by_points s t n (record { start_number = is_start; step_number = is_step; count_number = is_count }) (points_decided q counted s t n is_start.from is_count.from)
       by (inr never) step count = inr (no_numbers q part x y z words (λ axis are.
@@ -64,9 +64,9 @@ module _ (readings : AreReadings) (once : IsReadOnce) (q : Quantity) (counted : 
 
   -- a part of a text is some direction, or is none
   some_axis : HasSomeOrNone (IsAxisText q part)
-  some_axis = by (fields part) refl
+  some_axis = by (between_colons part) refl
     where
-      by : (words : List (List ℕ)) → fields part ≡ words → HasSomeOrNone (IsAxisText q part)
+      by : (words : List (List ℕ)) → between_colons part ≡ words → HasSomeOrNone (IsAxisText q part)
       by [] none = inr (λ axis is. cc (none, is.words))
       by (x ∷ []) one = inr (λ axis is. cc (one, is.words))
       by (x ∷ y ∷ []) two = inr (λ axis is. cc (two, is.words))

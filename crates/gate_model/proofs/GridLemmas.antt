@@ -6,7 +6,7 @@ use Rattle.model_params.specs.Quantities.{permittivity, screening_length}
 use Rattle.gate_model.specs.declared.grid.Axis.{Axis}
 use Rattle.gate_model.specs.Grids.{Axes, HasPointsIn}
 use Rattle.gate_model.specs.GridTexts.{AreNumbers, IsAxisText, IsGridText}
-use Rattle.gate_model.specs.Pairs.{fields, parts}
+use Rattle.gate_model.specs.Pairs.{between_colons, parts}
 use Rattle.gate_model.specs.declared.TheConstants.{MAX_GRID_STEP}
 use Rattle.gate_model.proofs.PairLemmas.{IsReadOnce}
 
@@ -26,7 +26,7 @@ one_numbers once q x y z a b e f =
     (same_count a.count b.count (once z 0 (pos 1) (pos MAX_GRID) (pos a.count) (pos b.count) e.count_number f.count_number))
 
 -- the words of a direction in a text are these
-with_words : (q : Quantity) (part x y z : List ℕ) → fields part ≡ x ∷ y ∷ z ∷ [] → (axis : Axis) → IsAxisText q part axis → AreNumbers q x y z axis
+with_words : (q : Quantity) (part x y z : List ℕ) → between_colons part ≡ x ∷ y ∷ z ∷ [] → (axis : Axis) → IsAxisText q part axis → AreNumbers q x y z axis
 with_words q part x y z words axis is =
     let first : is.start ≡ x = cc (words, is.words) in
     let second : is.step ≡ y = cc (words, is.words) in
@@ -34,14 +34,14 @@ with_words q part x y z words axis is =
     subst (λ w. AreNumbers q x y w axis) third (subst (λ w. AreNumbers q x w is.count axis) second (subst (λ w. AreNumbers q w is.step is.count axis) first is.numbers))
 
 -- a part is no direction where its words are no numbers of one
-pub no_numbers : (q : Quantity) (part x y z : List ℕ) → fields part ≡ x ∷ y ∷ z ∷ [] → ((axis : Axis) → AreNumbers q x y z axis → ⊥) → (axis : Axis) → IsAxisText q part axis → ⊥
+pub no_numbers : (q : Quantity) (part x y z : List ℕ) → between_colons part ≡ x ∷ y ∷ z ∷ [] → ((axis : Axis) → AreNumbers q x y z axis → ⊥) → (axis : Axis) → IsAxisText q part axis → ⊥
 no_numbers q part x y z words none axis is = none axis (with_words q part x y z words axis is)
 
 pub one_axis : IsReadOnce → (q : Quantity) (part : List ℕ) (a b : Axis) → IsAxisText q part a → IsAxisText q part b → a ≡ b
 one_axis once q part a b e f = one_numbers once q e.start e.step e.count a b e.numbers (with_words q part e.start e.step e.count e.words b f)
 
 -- a part whose numbers have a point out of the range is no direction
-pub outside_text : IsReadOnce → (q : Quantity) (part x y z : List ℕ) → fields part ≡ x ∷ y ∷ z ∷ [] → (axis : Axis) → AreNumbers q x y z axis → (HasPointsIn q axis → ⊥) → (other : Axis) → IsAxisText q part other → ⊥
+pub outside_text : IsReadOnce → (q : Quantity) (part x y z : List ℕ) → between_colons part ≡ x ∷ y ∷ z ∷ [] → (axis : Axis) → AreNumbers q x y z axis → (HasPointsIn q axis → ⊥) → (other : Axis) → IsAxisText q part other → ⊥
 outside_text once q part x y z words axis numbers not other is =
     let same : other ≡ axis = one_numbers once q x y z other axis (with_words q part x y z words other is) numbers in
     not (subst (HasPointsIn q) same is.inside)

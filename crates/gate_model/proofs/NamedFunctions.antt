@@ -2,7 +2,7 @@
 use Rattle.std.proofs.Common.{◌≡◌, ◌∙◌, sym, ap, refl, subst, ℕ, zero, suc, ◌+◌, ◌*◌, ◌==◌, List, [], ◌∷◌, inl, inr, Option, Some, None, Bool, if◌then◌else◌, map, slice_get, slice_index_or}
 use Rattle.std.proofs.lemmas.Bool.{cases_eq, ne_eqb}
 use Rattle.gate_model.specs.declared.function.Function.{Function}
-use Rattle.gate_model.specs.Functions.{IsFunctionNamed, names_of, table_of}
+use Rattle.gate_model.specs.Functions.{IsFunctionNamed, function_names, table_of}
 use Rattle.gate_model.proofs.FunctionLemmas.{IsAt}
 use Rattle.gate_model.proofs.Decided.{HasSomeOrNone, IsDecided, text_decided}
 
@@ -22,9 +22,9 @@ some_place name (x ∷ xs) = by (text_decided x name) (some_place name xs)
 
 -- a name stands for some function of so many bits, or for none
 pub some_named : (name : List ℕ) (inputs : ℕ) → HasSomeOrNone (IsFunctionNamed name inputs)
-some_named name inputs = by (some_place name (names_of inputs))
+some_named name inputs = by (some_place name (function_names inputs))
   where
-    by : HasSomeOrNone (λ k. slice_get (names_of inputs) k ≡ Some name) → HasSomeOrNone (IsFunctionNamed name inputs)
+    by : HasSomeOrNone (λ k. slice_get (function_names inputs) k ≡ Some name) → HasSomeOrNone (IsFunctionNamed name inputs)
     by (inl (k, at)) = inl (
       record { inputs = inputs; table = table_of inputs k },
       record { number = k; named = at; of_inputs = refl; values = refl },
@@ -43,16 +43,16 @@ place_of k (x ∷ xs) = if k == x then 0 else suc (place_of k xs)
 
 -- the place of a name among the names of so many bits
 abbrev place_among : ℕ → Option (List ℕ) → ℕ
-place_among inputs told = place_of (key told) (map (λ name. key (Some name)) (names_of inputs))
+place_among inputs told = place_of (key told) (map (λ name. key (Some name)) (function_names inputs))
 
-placed_one : (n : ℕ) (name : List ℕ) → IsAt 1 name n → place_among 1 (slice_get (names_of 1) n) ≡ n
+placed_one : (n : ℕ) (name : List ℕ) → IsAt 1 name n → place_among 1 (slice_get (function_names 1) n) ≡ n
 placed_one zero name e = refl
 placed_one (suc zero) name e = refl
 placed_one (suc (suc zero)) name e = refl
 placed_one (suc (suc (suc zero))) name e = refl
 placed_one (suc (suc (suc (suc n)))) name e = absurd (cc)
 
-placed_two : (n : ℕ) (name : List ℕ) → IsAt 2 name n → place_among 2 (slice_get (names_of 2) n) ≡ n
+placed_two : (n : ℕ) (name : List ℕ) → IsAt 2 name n → place_among 2 (slice_get (function_names 2) n) ≡ n
 placed_two zero name e = refl
 placed_two (suc zero) name e = refl
 placed_two (suc (suc zero)) name e = refl
@@ -72,11 +72,11 @@ placed_two (suc (suc (suc (suc (suc (suc (suc (suc (suc (suc (suc (suc (suc (suc
 placed_two (suc (suc (suc (suc (suc (suc (suc (suc (suc (suc (suc (suc (suc (suc (suc (suc n)))))))))))))))) name e = absurd (cc)
 
 -- where each name has its place, a name stands at one place
-one_at : (inputs : ℕ) → ((n : ℕ) (name : List ℕ) → IsAt inputs name n → place_among inputs (slice_get (names_of inputs) n) ≡ n) → (name : List ℕ) (m n : ℕ) → IsAt inputs name m → IsAt inputs name n → m ≡ n
+one_at : (inputs : ℕ) → ((n : ℕ) (name : List ℕ) → IsAt inputs name n → place_among inputs (slice_get (function_names inputs) n) ≡ n) → (name : List ℕ) (m n : ℕ) → IsAt inputs name m → IsAt inputs name n → m ≡ n
 one_at inputs placed name m n e f = sym (placed m name e) ∙ ap (place_among inputs) (e ∙ sym f) ∙ placed n name f
 
 -- functions of another number of bits have no name
-no_names : (inputs : ℕ) → (inputs ≡ 1 → ⊥) → (inputs ≡ 2 → ⊥) → names_of inputs ≡ []
+no_names : (inputs : ℕ) → (inputs ≡ 1 → ⊥) → (inputs ≡ 2 → ⊥) → function_names inputs ≡ []
 no_names inputs one two = rw (ne_eqb inputs 1 one, ne_eqb inputs 2 two) refl
 
 nowhere : (name : List ℕ) (names : List (List ℕ)) (n : ℕ) → names ≡ [] → slice_get names n ≡ Some name → ⊥
@@ -89,7 +89,7 @@ one_place inputs name m n e f = by (cases_eq inputs 1) (cases_eq inputs 2)
     by : IsDecided (inputs ≡ 1) → IsDecided (inputs ≡ 2) → m ≡ n
     by (inl one) other = one_at 1 placed_one name m n (subst (λ (i : ℕ). IsAt i name m) one e) (subst (λ (i : ℕ). IsAt i name n) one f)
     by (inr never) (inl two) = one_at 2 placed_two name m n (subst (λ (i : ℕ). IsAt i name m) two e) (subst (λ (i : ℕ). IsAt i name n) two f)
-    by (inr never) (inr neither) = absurd (nowhere name (names_of inputs) m (no_names inputs never neither) e)
+    by (inr never) (inr neither) = absurd (nowhere name (function_names inputs) m (no_names inputs never neither) e)
 
 -- a name stands for one function
 pub one_named : (name : List ℕ) (inputs : ℕ) (f g : Function) → IsFunctionNamed name inputs f → IsFunctionNamed name inputs g → f ≡ g

@@ -9,7 +9,7 @@ use Rattle.std.proofs.lemmas.Slice.Zip.{all_zipped_more, AllZip-long}
 use Rattle.sidb_units.specs.Decimal.{IsReadAs}
 use Rattle.gate_model.specs.declared.TheConstants.{MAX_PAIR_PLACE}
 use Rattle.gate_model.specs.declared.pairs.PairOf.{PairOf}
-use Rattle.gate_model.specs.Pairs.{ArePairs, IsPair, IsPlace, fields, parts}
+use Rattle.gate_model.specs.Pairs.{ArePairs, IsPair, IsPlace, between_colons, parts}
 
 -- a text is read as one number
 abbrev pub IsReadOnce : Type 0
@@ -27,12 +27,12 @@ more_than_two p xs ys zs a b first second x y two =
     omega (arith, long, short, some_part p zs)
 
 -- a part is no pair where its first word is no place
-pub no_first : (part x y : List ℕ) → fields part ≡ x ∷ y ∷ [] → ((place : ℕ) → IsPlace x place → ⊥) → (pair : PairOf) → IsPair part pair → ⊥
+pub no_first : (part x y : List ℕ) → between_colons part ≡ x ∷ y ∷ [] → ((place : ℕ) → IsPlace x place → ⊥) → (pair : PairOf) → IsPair part pair → ⊥
 no_first part x y words none pair is =
     let same : is.a_word ≡ x = cc (words, is.words) in none pair.a (subst (λ w. IsPlace w pair.a) same is.a)
 
 -- nor where its second word is none
-pub no_second : (part x y : List ℕ) → fields part ≡ x ∷ y ∷ [] → ((place : ℕ) → IsPlace y place → ⊥) → (pair : PairOf) → IsPair part pair → ⊥
+pub no_second : (part x y : List ℕ) → between_colons part ≡ x ∷ y ∷ [] → ((place : ℕ) → IsPlace y place → ⊥) → (pair : PairOf) → IsPair part pair → ⊥
 no_second part x y words none pair is =
     let same : is.b_word ≡ y = cc (words, is.words) in none pair.b (subst (λ w. IsPlace w pair.b) same is.b)
 

@@ -5,13 +5,13 @@ use Rattle.std.proofs.lemmas.Bool.{cases_lt}
 use Rattle.std.proofs.lemmas.Slice.Zip.{AllZip-long}
 use Rattle.gate_model.specs.declared.TheConstants.{MAX_PAIR_PLACE}
 use Rattle.gate_model.specs.declared.pairs.PairOf.{PairOf}
-use Rattle.gate_model.specs.Pairs.{ArePairs, IsPair, IsPlace, fields, parts}
+use Rattle.gate_model.specs.Pairs.{ArePairs, IsPair, IsPlace, between_colons, parts}
 use Rattle.gate_model.proofs.PairLemmas.{no_first, no_second}
 use Rattle.gate_model.proofs.Decided.{AreReadings, HasSomeOrNone, some_count}
 
 module _ (readings : AreReadings) where
   -- two words are some pair, or are none
-  two_words : (part x y : List ℕ) → fields part ≡ x ∷ y ∷ [] → HasSomeOrNone (IsPair part)
+  two_words : (part x y : List ℕ) → between_colons part ≡ x ∷ y ∷ [] → HasSomeOrNone (IsPair part)
   two_words part x y words = by (some_count readings x 0 (pos 0) MAX_PAIR_PLACE) (some_count readings y 0 (pos 0) MAX_PAIR_PLACE)
     where
       by : HasSomeOrNone (IsPlace x) → HasSomeOrNone (IsPlace y) → HasSomeOrNone (IsPair part)
@@ -24,9 +24,9 @@ module _ (readings : AreReadings) where
 
   -- a part of a text is some pair, or is none
   some_pair : (part : List ℕ) → HasSomeOrNone (IsPair part)
-  some_pair part = by (fields part) refl
+  some_pair part = by (between_colons part) refl
     where
-      by : (words : List (List ℕ)) → fields part ≡ words → HasSomeOrNone (IsPair part)
+      by : (words : List (List ℕ)) → between_colons part ≡ words → HasSomeOrNone (IsPair part)
       by [] none = inr (λ pair is. cc (none, is.words))
       by (x ∷ []) one = inr (λ pair is. cc (one, is.words))
       by (x ∷ y ∷ []) two = two_words part x y two

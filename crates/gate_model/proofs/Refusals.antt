@@ -6,10 +6,10 @@ use Rattle.model_params.specs.Quantities.{permittivity}
 use Rattle.gate_model.specs.declared.function.Function.{Function}
 use Rattle.gate_model.specs.declared.grid.Axis.{Axis}
 use Rattle.gate_model.specs.declared.pairs.PairOf.{PairOf}
-use Rattle.gate_model.specs.Functions.{IsFunctionNamed, names_of}
+use Rattle.gate_model.specs.Functions.{IsFunctionNamed, function_names}
 use Rattle.gate_model.specs.Grids.{Axes, HasFarEnds, HasPointsIn}
-use Rattle.gate_model.specs.GridTexts.{IsAxisText, IsCount, IsGridText, IsStart, IsStep}
-use Rattle.gate_model.specs.Logic.{AllDiffer, AreDistinct, IsLogic}
+use Rattle.gate_model.specs.GridTexts.{IsAxisText, IsCount, IsGridText, IsGridStart, IsGridStep}
+use Rattle.gate_model.specs.Logic.{AllDiffer, HaveDistinctPlaces, IsLogic}
 use Rattle.gate_model.specs.Pairs.{ArePairs, IsPair, IsPlace, parts}
 use Rattle.gate_model.proofs.NamedFunctions.{one_named}
 use Rattle.gate_model.proofs.StandardFacts.{named, of_two, pair, wire}
@@ -44,7 +44,7 @@ first_letter (Some name) = slice_index_or name 0 0
 no_name_of_two_bits_for_one : (f : Function) → IsFunctionNamed (codes "and") 1 f → ⊥
 no_name_of_two_bits_for_one f is = by is.number (ap first_letter is.named)
   where
-    by : (n : ℕ) → first_letter (slice_get (names_of 1) n) ≡ 97 → ⊥
+    by : (n : ℕ) → first_letter (slice_get (function_names 1) n) ≡ 97 → ⊥
     by zero e = omega (arith, e)
     by (suc zero) e = omega (arith, e)
     by (suc (suc zero)) e = omega (arith, e)
@@ -57,10 +57,10 @@ no_name_without_inputs f is = cc (is.named)
 no_point_above_the_range : HasPointsIn permittivity (record { start = pos 1000000; step = pos 1; count = 2 }) → ⊥
 no_point_above_the_range inside = let last = inside 1 (omega arith) in omega (arith, ints, last.to)
 
-no_start_below_the_range : (word : List ℕ) → IsStart permittivity word (pos 9999) → ⊥
+no_start_below_the_range : (word : List ℕ) → IsGridStart permittivity word (pos 9999) → ⊥
 no_start_below_the_range word is = omega (arith, ints, is.from)
 
-no_step_of_zero : (word : List ℕ) → IsStep word (pos 0) → ⊥
+no_step_of_zero : (word : List ℕ) → IsGridStep word (pos 0) → ⊥
 no_step_of_zero word is = omega (arith, ints, is.from)
 
 no_count_of_zero : (word : List ℕ) → IsCount word 0 → ⊥
@@ -75,7 +75,7 @@ no_direction_of_two_words axis is = cc (is.words)
 no_grid_of_one_direction : (a : Axes) → IsGridText (codes "5:1:2") a → ⊥
 no_grid_of_one_direction a is = cc (is.both)
 
-no_place_twice : AreDistinct (pair 0 1 ∷ []) (pair 2 0 ∷ []) → ⊥
+no_place_twice : HaveDistinctPlaces (pair 0 1 ∷ []) (pair 2 0 ∷ []) → ⊥
 unfolding AllDiffer
 no_place_twice differ = differ 0 3 0 (omega arith) (omega arith) refl
 

@@ -9,7 +9,7 @@ use Rattle.gate_model.specs.declared.pairs.PairOf.{PairOf}
 use Rattle.gate_model.specs.Functions.{IsFunctionNamed}
 use Rattle.gate_model.specs.Grids.{Axes, HasFarEnds, HasPointsIn}
 use Rattle.gate_model.specs.GridTexts.{IsAxisText, IsGridText}
-use Rattle.gate_model.specs.Logic.{AllDiffer, AreDistinct, IsLogic, Logic, logic_of}
+use Rattle.gate_model.specs.Logic.{AllDiffer, HaveDistinctPlaces, IsLogic, Logic, logic_of}
 use Rattle.gate_model.specs.Pairs.{ArePairs, IsPair, IsPlace}
 
 -- a text of one digit
@@ -161,7 +161,7 @@ grid_text = record { eps_part = codes "5:1:2"; lam_part = codes "5:1:2"; both = 
 abbrev pub wire : Logic
 wire = logic_of (pair 0 3 ∷ []) (pair 2 1 ∷ []) (of_one false true)
 
-pub wire_differs : AreDistinct (pair 0 3 ∷ []) (pair 2 1 ∷ [])
+pub wire_differs : HaveDistinctPlaces (pair 0 3 ∷ []) (pair 2 1 ∷ [])
 unfolding AllDiffer
 wire_differs zero zero d before within same = omega (arith, before)
 wire_differs zero (suc zero) d before within same = omega (arith, same)

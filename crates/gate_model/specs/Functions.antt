@@ -3,8 +3,8 @@ use Rattle.std.specs.Prelude.{◌≡◌, ℕ, ◌+◌, ◌*◌, ◌/◌, ◌%◌
 use Rattle.gate_model.specs.declared.function.Function.{Function}
 
 -- the names of the functions of so many bits, by number: the values by pattern are its binary digits
-abbrev pub names_of : ℕ → List (List ℕ)
-names_of inputs =
+abbrev pub function_names : ℕ → List (List ℕ)
+function_names inputs =
     if inputs == 1
     then codes "zero" ∷ codes "buf" ∷ codes "not" ∷ codes "one" ∷ []
     else if inputs == 2
@@ -27,7 +27,7 @@ table_of inputs number =
 -- a name stands for a function of so many bits
 pub record IsFunctionNamed (name : List ℕ) (inputs : ℕ) (f : Function) : Type 0 where
   pub number : ℕ
-  pub named : slice_get (names_of inputs) number ≡ Some name
+  pub named : slice_get (function_names inputs) number ≡ Some name
   pub of_inputs : f.inputs ≡ inputs
   pub values : f.table ≡ table_of inputs number
 
@@ -44,4 +44,4 @@ number f =
 
 -- the name of a function, and nothing where it has none
 abbrev pub name_by : Function → List ℕ
-name_by f = slice_index_or (names_of f.inputs) (number f) []
+name_by f = slice_index_or (function_names f.inputs) (number f) []

@@ -28,8 +28,8 @@ unfoldable pub AllDiffer : List ℕ → Type 0
 AllDiffer places = AllPairs (λ x y. x ≢ y) places
 
 -- all places of the inputs and of the outputs are distinct
-abbrev pub AreDistinct : List PairOf → List PairOf → Type 0
-AreDistinct inputs outputs = AllDiffer (places_in inputs ++ places_in outputs)
+abbrev pub HaveDistinctPlaces : List PairOf → List PairOf → Type 0
+HaveDistinctPlaces inputs outputs = AllDiffer (places_in inputs ++ places_in outputs)
 
 -- 1 or 2 inputs, 1 to 4 outputs, a function of so many inputs, and all places distinct
 pub record IsLogic (gate : Logic) : Type 0 where
@@ -38,7 +38,7 @@ pub record IsLogic (gate : Logic) : Type 0 where
   pub some_output : 1 ≤ length gate.outputs
   pub few_outputs : length gate.outputs ≤ 4
   pub of_inputs : gate.function.inputs ≡ length gate.inputs
-  pub distinct : AreDistinct gate.inputs gate.outputs
+  pub distinct : HaveDistinctPlaces gate.inputs gate.outputs
 
 -- how many patterns of its inputs a gate has
 abbrev pub pattern_count : Logic → ℕ

@@ -10,8 +10,8 @@ abbrev pub parts : List ℕ → List (List ℕ)
 parts text = slice_split (λ b. eqb b 44) text
 
 -- what stands between the colons of a part
-abbrev pub fields : List ℕ → List (List ℕ)
-fields part = slice_split (λ b. eqb b 58) part
+abbrev pub between_colons : List ℕ → List (List ℕ)
+between_colons part = slice_split (λ b. eqb b 58) part
 
 -- a place of a site: a whole number from 0 to 9,999
 abbrev pub IsPlace : List ℕ → ℕ → Type 0
@@ -21,7 +21,7 @@ IsPlace word place = IsReadAs word 0 (pos 0) MAX_PAIR_PLACE (pos place)
 pub record IsPair (part : List ℕ) (pair : PairOf) : Type 0 where
   pub a_word : List ℕ
   pub b_word : List ℕ
-  pub words : fields part ≡ a_word ∷ b_word ∷ []
+  pub words : between_colons part ≡ a_word ∷ b_word ∷ []
   pub a : IsPlace a_word pair.a
   pub b : IsPlace b_word pair.b
 

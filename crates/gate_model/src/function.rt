@@ -1,6 +1,6 @@
 ghost use Rattle.std.specs.Prelude.{◌≡◌, ◌==◌, ◌<◌, ◌≤◌, ◌/◌, ◌%◌, IfSome, IfNone, Some, length, slice_get};
 ghost use Rattle.gate_model.specs.declared.function.Function.{Function};
-ghost use Rattle.gate_model.specs.Functions.{IsFunctionNamed, name_by, names_of, digit, number, table_of};
+ghost use Rattle.gate_model.specs.Functions.{IsFunctionNamed, name_by, function_names, digit, number, table_of};
 
 /// A function of one or two bits: how many, and its values by pattern. With one bit the last two
 /// values are false.
@@ -12,7 +12,7 @@ pub struct Function {
 
 /// How many functions of so many bits have a name.
 fn count_of(inputs: u64) -> u64
-    ensures { result ≡ length (names_of inputs) }
+    ensures { result ≡ length (function_names inputs) }
 {
     match inputs {
         1 => 4,
@@ -24,7 +24,7 @@ fn count_of(inputs: u64) -> u64
 /// The name of the function of one bit with this number.
 fn name_of_one(number: u64) -> &'static str
     requires { number < 4 }
-    ensures { slice_get (names_of 1) number ≡ Some result.now }
+    ensures { slice_get (function_names 1) number ≡ Some result.now }
 {
     ["zero", "buf", "not", "one"][number as usize]
 }
@@ -32,7 +32,7 @@ fn name_of_one(number: u64) -> &'static str
 /// The name of the function of two bits with this number.
 fn name_of_two(number: u64) -> &'static str
     requires { number < 16 }
-    ensures { slice_get (names_of 2) number ≡ Some result.now }
+    ensures { slice_get (function_names 2) number ≡ Some result.now }
 {
     [
         "zero", "and", "gt", "a", "lt", "b", "xor", "or", "nor", "xnor", "notb", "ge", "nota",
@@ -42,8 +42,8 @@ fn name_of_two(number: u64) -> &'static str
 
 /// The name of the function with this number.
 fn name_at(inputs: u64, number: u64) -> &'static str
-    requires { number < length (names_of inputs) }
-    ensures { slice_get (names_of inputs) number ≡ Some result.now }
+    requires { number < length (function_names inputs) }
+    ensures { slice_get (function_names inputs) number ≡ Some result.now }
 {
     if inputs == 1 {
         name_of_one(number)

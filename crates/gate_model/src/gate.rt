@@ -1,5 +1,5 @@
 ghost use Rattle.std.specs.Prelude.{◌≡◌, ◌≢◌, ◌<◌, ◌≤◌, ◌↔◌, ◌++◌, ℕ, IfOk, IfSome, IfNone, IsTrue, MatchBool, OnOk, Some, length, slice_get, slice_index};
-ghost use Rattle.gate_model.specs.Logic.{AllDiffer, AreDistinct, IsLogic, StandsBefore, logic_of, pattern_count, places_in};
+ghost use Rattle.gate_model.specs.Logic.{AllDiffer, HaveDistinctPlaces, IsLogic, StandsBefore, logic_of, pattern_count, places_in};
 
 use crate::{Function, PairOf};
 use sidb_units::Memory;
@@ -129,7 +129,8 @@ fn push_places(places: &mut Vec<usize>, pairs: &[PairOf]) -> Result<(), Memory>
 
 /// Whether all places of these pairs are distinct.
 pub fn are_distinct(alloc: Global, inputs: &[PairOf], outputs: &[PairOf]) -> Result<bool, Memory>
-    ensures { IfOk result (λ distinct. IsTrue distinct ↔ AreDistinct inputs.now outputs.now) }
+    ensures { IfOk result (λ distinct. IsTrue distinct
+        ↔ HaveDistinctPlaces inputs.now outputs.now) }
 {
     let mut places = Vec::new(alloc);
     push_places(&mut places, inputs)?;

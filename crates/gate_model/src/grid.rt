@@ -1,5 +1,5 @@
 ghost use Rattle.std.specs.Prelude.{◌≡◌, ◌↔◌, ◌+◌, ◌-◌, ◌*◌, ◌<◌, ◌≤◌, ◌≤ℤ◌, ◌^◌, pos, IsTrue};
-ghost use Rattle.model_params.specs.Quantities.{IsWithin, permittivity, screening_length};
+ghost use Rattle.model_params.specs.Quantities.{IsInRangeOf, permittivity, screening_length};
 ghost use Rattle.gate_model.specs.Grids.{HasFarEnds, HasPointsIn, IsAxis, point_at};
 
 use model_params::{PERMITTIVITY, Quantity, SCREENING_LENGTH};
@@ -38,7 +38,7 @@ impl Axis {
         requires axis { IsAxis quantity.now self.now }
         requires least { pos 0 ≤ℤ quantity.now.least }
         requires small { quantity.now.greatest ≤ℤ pos 10000000 }
-        ensures { IsTrue result ↔ IsWithin quantity.now (point_at self.now self.now.count) }
+        ensures { IsTrue result ↔ IsInRangeOf quantity.now (point_at self.now self.now.count) }
     {
         let start = unsigned(&self.start);
         let step = unsigned(&self.step);
@@ -119,7 +119,7 @@ impl Grid {
     pub fn eps_at(&self, k: u64) -> i64
         requires { k < self.now.eps.count }
         ensures value { result ≡ point_at self.now.eps k }
-        ensures within { IsWithin permittivity result }
+        ensures within { IsInRangeOf permittivity result }
     {
         self.eps().point(k)
     }
@@ -128,7 +128,7 @@ impl Grid {
     pub fn lam_at(&self, k: u64) -> i64
         requires { k < self.now.lam.count }
         ensures value { result ≡ point_at self.now.lam k }
-        ensures within { IsWithin screening_length result }
+        ensures within { IsInRangeOf screening_length result }
     {
         self.lam().point(k)
     }

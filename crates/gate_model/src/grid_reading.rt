@@ -1,10 +1,10 @@
 // Grids out of texts.
 ghost use Rattle.std.specs.Prelude.{◌≡◌, ◌<◌, ◌≤◌, ◌≤ℤ◌, ◌+◌, ◌*◌, ◌^◌, ℕ, ℤ, pos, IfSome, IfNone, IsTrue, MatchBool};
 ghost use Rattle.sidb_units.specs.Decimal.{IsReadAs};
-ghost use Rattle.model_params.specs.Quantities.{IsWithin, permittivity, screening_length};
+ghost use Rattle.model_params.specs.Quantities.{IsInRangeOf, permittivity, screening_length};
 ghost use Rattle.gate_model.specs.declared.grid.Axis.{Axis};
 ghost use Rattle.gate_model.specs.Grids.{Axes, HasPointsIn, IsAxis};
-ghost use Rattle.gate_model.specs.GridTexts.{AreNumbers, IsAxisText, IsCount, IsGridText, IsStart, IsStep};
+ghost use Rattle.gate_model.specs.GridTexts.{AreNumbers, IsAxisText, IsCount, IsGridText, IsGridStart, IsGridStep};
 
 use crate::grid::unsigned;
 use crate::parts::{Three, in_three, in_two};
@@ -32,8 +32,8 @@ fn start_in(word: &[u8], quantity: &Quantity) -> Option<i64>
     requires places { quantity.now.places ≤ 12 }
     requires least { pos 0 ≤ℤ quantity.now.least }
     requires order { quantity.now.least ≤ℤ quantity.now.greatest }
-    ensures found { IfSome result (IsStart quantity.now word.now) }
-    ensures none { IfNone result ((v : ℤ) → IsStart quantity.now word.now v → ⊥) }
+    ensures found { IfSome result (IsGridStart quantity.now word.now) }
+    ensures none { IfNone result ((v : ℤ) → IsGridStart quantity.now word.now v → ⊥) }
 {
     let least = least_of(quantity);
     let greatest = greatest_of(quantity);
@@ -45,8 +45,8 @@ fn start_in(word: &[u8], quantity: &Quantity) -> Option<i64>
 
 /// The step that a word is.
 fn step_in(word: &[u8]) -> Option<i64>
-    ensures found { IfSome result (IsStep word.now) }
-    ensures none { IfNone result ((v : ℤ) → IsStep word.now v → ⊥) }
+    ensures found { IfSome result (IsGridStep word.now) }
+    ensures none { IfNone result ((v : ℤ) → IsGridStep word.now v → ⊥) }
 {
     match read_dec(word, 4, 1, MAX_GRID_STEP) {
         Ok(step) => Some(step),
@@ -100,7 +100,7 @@ fn is_inside(start: u64, step: u64, count: u64, greatest: u64) -> bool
 
 /// Whether each point of a direction is in the range of the quantity.
 fn has_points_in(axis: &Axis, quantity: &Quantity) -> bool
-    requires start { IsWithin quantity.now axis.now.start }
+    requires start { IsInRangeOf quantity.now axis.now.start }
     requires least { pos 0 ≤ℤ quantity.now.least }
     requires step { (pos 1 ≤ℤ axis.now.step) × (axis.now.step ≤ℤ MAX_GRID_STEP) }
     requires count { (1 ≤ axis.now.count) × (axis.now.count ≤ MAX_GRID) }

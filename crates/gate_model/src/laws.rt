@@ -3,7 +3,7 @@ ghost use Rattle.std.specs.Prelude.{◌≡◌, ◌⊎◌, ℕ, List};
 ghost use Rattle.gate_model.specs.declared.function.Function.{Function};
 ghost use Rattle.gate_model.specs.declared.pairs.PairOf.{PairOf};
 ghost use Rattle.gate_model.specs.Functions.{IsFunctionNamed};
-ghost use Rattle.gate_model.specs.Logic.{AreDistinct, IsLogic, Logic};
+ghost use Rattle.gate_model.specs.Logic.{HaveDistinctPlaces, IsLogic, Logic};
 ghost use Rattle.gate_model.specs.Pairs.{ArePairs};
 ghost use Rattle.gate_model.specs.Grids.{Axes};
 ghost use Rattle.gate_model.specs.GridTexts.{IsGridText};
@@ -55,8 +55,8 @@ pub fn some_function()
 
 /// The places of pairs are all distinct, or they are not.
 pub fn distinct_or_not()
-    ensures { (inputs outputs : List PairOf) → AreDistinct inputs outputs
-        ⊎ (AreDistinct inputs outputs → ⊥) }
+    ensures { (inputs outputs : List PairOf) → HaveDistinctPlaces inputs outputs
+        ⊎ (HaveDistinctPlaces inputs outputs → ⊥) }
 {}
 
 /// Pairs and a function make a gate, or they make none.

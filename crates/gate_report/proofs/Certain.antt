@@ -3,8 +3,8 @@ use Rattle.std.proofs.Common.{◌≡◌, ◌∙◌, ap, sym, ℕ, ◌+◌, List,
 use Rattle.std.specs.List.{slice_get}
 use Rattle.std.proofs.lemmas.List.Sums.{count_by_more_no, count_by_more_yes}
 use Rattle.std.proofs.lemmas.Option.{slice_get_within, get_or_from_slice_get}
-use Rattle.charge_model.specs.GroundList.{Entry}
-use Rattle.gate_report.specs.GenText.{count_certain, is_certain}
+use Rattle.charge_model.specs.GroundList.{Entry, is_certain}
+use Rattle.gate_report.specs.GenText.{count_certain}
 
 abbrev marked : Entry → Bool
 marked e = is_certain e.mark

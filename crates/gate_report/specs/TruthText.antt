@@ -7,8 +7,8 @@ use Rattle.bdl_pairs.specs.declared.truth.PatternAnswer.{PatternAnswer}
 use Rattle.gate_report.specs.Answers.{answer_text, bit_word, overall, verdict_word}
 
 -- what the text is, the name of the function, and how many inputs and outputs the gate has
-abbrev pub title_rows : List ℕ → Logic → List (List (List ℕ))
-title_rows name gate = (codes "sidb-truth" ∷ codes "1" ∷ []) ∷ (codes "function" ∷ name ∷ [])
+abbrev pub truth_title_rows : List ℕ → Logic → List (List (List ℕ))
+truth_title_rows name gate = (codes "sidb-truth" ∷ codes "1" ∷ []) ∷ (codes "function" ∷ name ∷ [])
     ∷ (codes "inputs" ∷ decimal (length gate.inputs) ∷ [])
     ∷ (codes "outputs" ∷ decimal (length gate.outputs) ∷ []) ∷ []
 
@@ -29,4 +29,5 @@ verdict_rows t = (codes "verdict" ∷ answer_text (overall 0 t) ∷ []) ∷ (cod
 
 -- the whole text
 abbrev pub truth_text : List ℕ → Logic → List PatternAnswer → List ℕ
-truth_text name gate t = text_of (title_rows name gate ++ (pattern_rows 0 t ++ verdict_rows t))
+truth_text name gate t = text_of (truth_title_rows name gate
+    ++ (pattern_rows 0 t ++ verdict_rows t))

@@ -1,5 +1,6 @@
 ghost use Rattle.std.specs.Prelude.{◌≡◌, ◌≤◌, length, string_bytes, IfOk};
-ghost use Rattle.gate_report.specs.GenText.{count_certain, gen_text, is_certain};
+ghost use Rattle.charge_model.specs.GroundList.{is_certain};
+ghost use Rattle.gate_report.specs.GenText.{count_certain, gen_text};
 
 use charge_model::Mark;
 use ground_entries::{GroundList, Solved};

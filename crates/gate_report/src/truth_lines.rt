@@ -1,6 +1,6 @@
 ghost use Rattle.std.specs.Prelude.{◌≡◌, string_bytes, IfOk};
 ghost use Rattle.text_rows.specs.Rows.{text_of};
-ghost use Rattle.gate_report.specs.TruthText.{pattern_rows, title_rows, truth_text, verdict_rows};
+ghost use Rattle.gate_report.specs.TruthText.{pattern_rows, truth_title_rows, truth_text, verdict_rows};
 
 use crate::answers::{answer_text, overall};
 use crate::patterns::push_pattern;
@@ -28,7 +28,8 @@ pub fn truth_text(
 
 /// The lines before the patterns.
 fn title(alloc: Global, name: &str, gate: &LogicSpec) -> Result<String, Memory>
-    ensures { IfOk result (λ text. string_bytes text ≡ text_of (title_rows name.now gate.now)) }
+    ensures { IfOk result (λ text. string_bytes text
+        ≡ text_of (truth_title_rows name.now gate.now)) }
 {
     let (inputs, outputs) = (gate.inputs(), gate.outputs());
     Ok(format!(in alloc; "sidb-truth 1\nfunction {name}\ninputs {inputs}\noutputs {outputs}\n")?)

@@ -11,7 +11,7 @@ use Rattle.sidb_layout.specs.declared.site.Site.{Site}
 use Rattle.sidb_layout.specs.declared.site.Fix.{Fix}
 use Rattle.sidb_layout.specs.Lattice.{silicon}
 use Rattle.sidb_layout.specs.Layout.{arrangement_of}
-use Rattle.ground_report.specs.Subject.{version_of, skipped_in, IsAbout}
+use Rattle.ground_report.specs.Subject.{version_of, skipped_in, IsAboutProblem}
 use Rattle.ground_report.specs.Energies.{IsEnergySpan, AreEnergies}
 
 -- the lattice whose step along a row is that of a dimer
@@ -66,7 +66,7 @@ empty = record {
   spans = [];
 }
 
-about_empty : IsAbout (record { layout = Some (arrangement_of silicon [] []); skipped = 0 }) empty
+about_empty : IsAboutProblem (record { layout = Some (arrangement_of silicon [] []); skipped = 0 }) empty
 about_empty = refl
 
 abbrev unit : Table

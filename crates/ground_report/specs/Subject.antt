@@ -34,9 +34,9 @@ skipped_in a = skipped_with a.layout a.skipped
     skipped_with (Some l) k = k
 
 -- the report is about this problem: its layout, where there is one, has as many sites
-abbrev pub IsAbout : About → Problem → Type 0
-IsAbout a p = IfSome a.layout (λ l. length l.sites ≡ p.sites)
+abbrev pub IsAboutProblem : About → Problem → Type 0
+IsAboutProblem a p = IfSome a.layout (λ l. length l.sites ≡ p.sites)
 
 -- the entries are charge lists of the problem
-abbrev pub AreOf : Problem → List Entry → Type 0
-AreOf p es = All (λ e. IsChargeList p e.charges) es
+abbrev pub AreListsOfProblem : Problem → List Entry → Type 0
+AreListsOfProblem p es = All (λ e. IsChargeList p e.charges) es

@@ -1,7 +1,7 @@
 ghost use Rattle.std.specs.Prelude.{◌≡◌, length, IfOk};
 ghost use Rattle.charge_model.specs.Rules.{IsChargeList};
 ghost use Rattle.ground_report.specs.Energies.{AreEnergies, IsEnergySpan};
-ghost use Rattle.ground_report.specs.Subject.{AreOf};
+ghost use Rattle.ground_report.specs.Subject.{AreListsOfProblem};
 
 use charge_model::Span;
 use charge_state::Charges;
@@ -27,7 +27,7 @@ pub fn energy_spans(
     problem: &Problem,
     list: &GroundList,
 ) -> Result<Vec<Span>, Memory>
-    requires { AreOf problem.now list.now }
+    requires { AreListsOfProblem problem.now list.now }
     ensures value { IfOk result (λ spans. AreEnergies problem.now list.now spans.items) }
     ensures one_each { IfOk result (λ spans. length spans.items ≡ length list.now) }
 {

@@ -13,7 +13,7 @@ use Rattle.charge_model.proofs.OneSite.{one_site, some_table, one_entry, one_sit
 use Rattle.candidate_marks.specs.declared.candidate.Candidate.{Candidate}
 use Rattle.candidate_marks.specs.Candidates.{IsWeighed, ReachesBound, LiesAbove}
 use Rattle.ground_entries.specs.declared.ground_list.Solved.{Solved}
-use Rattle.ground_state.specs.Answer.{IsListedWithin, IsOverBudget, IsSolution}
+use Rattle.ground_state.specs.Answer.{IsListedWithin, IsOverLimit, IsSolution}
 use Rattle.walk_model.specs.Walks.{raised_bound}
 use Rattle.ground_state.specs.Window.{IsWindowSolution}
 use Rattle.ground_state.specs.Kept.{AreKept}
@@ -30,7 +30,7 @@ listed_within = record {
   few = omega arith;
 }
 
-pub over_budget : IsOverBudget one_site 1
+pub over_budget : IsOverLimit one_site 1
 over_budget = (Some (pos 0), one_site_bound, omega (arith, two_nodes))
 
 abbrev pub one_solution : Solved

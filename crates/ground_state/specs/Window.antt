@@ -18,25 +18,25 @@ pub record IsReach (p : Problem) (r : Reach) : Type 0 where
   pub end : r.end ≡ raised_bound r.window.width r.bound
 
 -- the search tree under the least certain energy and the window has at most so many nodes
-abbrev pub IsWindowWithinBudget : Problem → ℤ → ℕ → Type 0
-IsWindowWithinBudget p window limit =
+abbrev pub IsWindowWithinLimit : Problem → ℤ → ℕ → Type 0
+IsWindowWithinLimit p window limit =
     (bound : Option ℤ) × IsLeastCertain p bound × (node_count p (raised_bound window bound) ≤ limit)
 
 -- it has more
-abbrev pub IsWindowOverBudget : Problem → ℤ → ℕ → Type 0
-IsWindowOverBudget p window limit =
+abbrev pub IsWindowOverLimit : Problem → ℤ → ℕ → Type 0
+IsWindowOverLimit p window limit =
     (bound : Option ℤ) × IsLeastCertain p bound × (limit < node_count p (raised_bound window bound))
 
--- the window list with its marks, which has at most 4,096 entries and is found within the budget
+-- the window list with its marks, which has at most 4,096 entries and is found within the limit
 pub record IsWindowListedWithin (p : Problem) (window : ℤ) (limit : ℕ) (es : List Entry)
     : Type 0 where
-  pub budget : IsWindowWithinBudget p window limit
+  pub budget : IsWindowWithinLimit p window limit
   pub list : IsMarkedWindowList p window es
   pub few : length es ≤ MAX_ENTRIES
 
--- the budget suffices, and the window list has more than 4,096 entries
+-- the limit suffices, and the window list has more than 4,096 entries
 pub record IsWindowTooLongWithin (p : Problem) (window : ℤ) (limit : ℕ) : Type 0 where
-  pub budget : IsWindowWithinBudget p window limit
+  pub budget : IsWindowWithinLimit p window limit
   pub many : IsWindowTooLong p window
 
 -- the window list with its marks, the least certain energy,
@@ -50,6 +50,6 @@ pub record IsWindowSolution (p : Problem) (window : ℤ) (limit : ℕ) (s : Solv
 -- what each answer says
 abbrev pub IsWindowSolved : Problem → ℤ → ℕ → SolveAnswer → Type 0
 IsWindowSolved p window limit (Listed s) = IsWindowSolution p window limit s
-IsWindowSolved p window limit Budget = IsWindowOverBudget p window limit
+IsWindowSolved p window limit Budget = IsWindowOverLimit p window limit
 IsWindowSolved p window limit ListTooLong = IsWindowTooLongWithin p window limit
 IsWindowSolved p window limit Memory = Unit {0}

@@ -5,7 +5,7 @@ ghost use Rattle.sidb_units.specs.declared.TheConstants.{MAX_NODES, MAX_WORKERS}
 ghost use Rattle.window_model.specs.Windows.{IsWindow, IsMarkedWindowList, ListsEachNear};
 ghost use Rattle.candidate_marks.specs.Found.{IsWindowFound, CertainAreGround, CertainAreNear, UnresolvedFail, UnresolvedFailWithin};
 ghost use Rattle.tree_leaves.specs.Leaves.{AreLeaves};
-ghost use Rattle.tree_leaves.specs.Answer.{IsListed};
+ghost use Rattle.tree_leaves.specs.Answer.{IsLeafList};
 ghost use Rattle.ground_state.specs.Answer.{IsSolved, IfListed};
 ghost use Rattle.ground_state.specs.Window.{IsReach, IsWindowSolved, IsWindowTooLong};
 
@@ -116,7 +116,7 @@ fn solved<R: Threads + Sync>(
     leaves: &LeafList,
 ) -> SolveAnswer
     requires reach { IsReach problem.now reach.now }
-    requires leaves { IsListed problem.now reach.now.end limit leaves.now }
+    requires leaves { IsLeafList problem.now reach.now.end limit leaves.now }
     requires limit { limit ≤ MAX_NODES }
     ensures { IsWindowSolved problem.now reach.now.window.width limit result }
 {

@@ -31,7 +31,7 @@ IsHopVerdict p cs i j Never = NeverHolds p cs i j
 IsHopVerdict p cs i j (Depends s) = DependsOnTable p cs i j s
 
 -- the span of a verdict has small ends
-abbrev pub HasSmallSpan : HopVerdict → Type 0
-HasSmallSpan Always = Unit {0}
-HasSmallSpan Never = Unit {0}
-HasSmallSpan (Depends s) = IsSmallSpan s
+abbrev pub HasSmallHopSpan : HopVerdict → Type 0
+HasSmallHopSpan Always = Unit {0}
+HasSmallHopSpan Never = Unit {0}
+HasSmallHopSpan (Depends s) = IsSmallSpan s

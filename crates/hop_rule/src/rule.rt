@@ -3,7 +3,7 @@ ghost use Rattle.charge_model.specs.Charges.{charge_at, rank_of};
 ghost use Rattle.charge_model.specs.Problem.{IsLeast, IsGreatest};
 ghost use Rattle.charge_model.specs.Rules.{IsChargeList, hop_slack};
 ghost use Rattle.linear_form.specs.Forms.{IsSmallSpan};
-ghost use Rattle.hop_rule.specs.Verdict.{IsHopVerdict, HoldsAlways, NeverHolds, HasSmallSpan};
+ghost use Rattle.hop_rule.specs.Verdict.{IsHopVerdict, HoldsAlways, NeverHolds, HasSmallHopSpan};
 
 use crate::verdict::HopVerdict;
 use charge_model::Span;
@@ -59,7 +59,7 @@ pub fn hop(
         (λ v. (v ≡ HopVerdict.Always) ↔ HoldsAlways problem.now charges.now i j) }
     ensures never { IfOk result
         (λ v. (v ≡ HopVerdict.Never) ↔ NeverHolds problem.now charges.now i j) }
-    ensures within { IfOk result HasSmallSpan }
+    ensures within { IfOk result HasSmallHopSpan }
 {
     problems_have_tables();
     let _known = problem.sites();
@@ -80,7 +80,7 @@ fn hop_verdict(
     requires j { j < problem.now.sites }
     requires hop { rank_of (charge_at charges.now i) < rank_of (charge_at charges.now j) }
     ensures verdict { IfOk result (IsHopVerdict problem.now charges.now i j) }
-    ensures within { IfOk result HasSmallSpan }
+    ensures within { IfOk result HasSmallHopSpan }
 {
     least_values_decide();
     greatest_values_decide();

@@ -10,7 +10,7 @@ use Rattle.sidb_layout.specs.declared.fault.LayoutFault.{LayoutFault}
 use Rattle.sidb_layout.specs.declared.fault.LayoutFault.TheVariants.{OutOfRange, TooMany, TooManyFixes, Duplicate, TooClose}
 use Rattle.sidb_layout.specs.Site.{places_of}
 use Rattle.sidb_layout.specs.Layout.{Arrangement}
-use Rattle.sidb_layout.specs.Refusal.{IsFirstOutOfRange, IsFirstPair, IsTooClose, AreInRange, AreFew, AreDistinct, IsRefusal, IsMadeOf}
+use Rattle.sidb_layout.specs.Refusal.{IsFirstOutOfRange, IsFirstPair, IsTooClose, ArePlacesInRange, AreFew, AreDistinct, IsLayoutRefusal, IsMadeOf}
 use Rattle.layout_laws.proofs.Decisions.{same, too_close}
 use Rattle.layout_laws.proofs.Made.{HaveNoDirection, layout_of_clear}
 use Rattle.layout_laws.proofs.Searches.{first_pair_or_none, first_out_or_in_range}
@@ -19,8 +19,8 @@ use Rattle.layout_laws.proofs.Unrefused.{not_refused}
 -- one of the two
 abbrev IsEither : Lattice → List Site → List Fix → Type 0
 IsEither v sites fixes =
-    ((p : Arrangement) × IsMadeOf v sites fixes p × ((f : LayoutFault) → IsRefusal v sites fixes f → ⊥))
-    ⊎ ((f : LayoutFault) × IsRefusal v sites fixes f)
+    ((p : Arrangement) × IsMadeOf v sites fixes p × ((f : LayoutFault) → IsLayoutRefusal v sites fixes f → ⊥))
+    ⊎ ((f : LayoutFault) × IsLayoutRefusal v sites fixes f)
 
 clear_or_close : HaveNoDirection → (v : Lattice) (sites : List Site) (fixes : List Fix) → AreFew sites fixes → AreDistinct (places_of sites fixes) → IsEither v sites fixes
 clear_or_close turned v sites fixes few distinct = by (first_pair_or_none (IsTooClose v) (too_close v) (places_of sites fixes))
@@ -43,7 +43,7 @@ few_settled turned v sites fixes few = by (first_pair_or_none (λ a b. a ≡ b) 
 pub made_or_refused : HaveNoDirection → (v : Lattice) (sites : List Site) (fixes : List Fix) → IsEither v sites fixes
 made_or_refused turned v sites fixes = by (first_out_or_in_range sites fixes) (cases_lt MAX_SITES (length sites)) (cases_lt MAX_FIXED (length fixes))
   where
-    by : ((i : ℕ) × IsFirstOutOfRange sites fixes i) ⊎ AreInRange sites fixes → (MAX_SITES < length sites) ⊎ (length sites ≤ MAX_SITES)
+    by : ((i : ℕ) × IsFirstOutOfRange sites fixes i) ⊎ ArePlacesInRange sites fixes → (MAX_SITES < length sites) ⊎ (length sites ≤ MAX_SITES)
         → (MAX_FIXED < length fixes) ⊎ (length fixes ≤ MAX_FIXED) → IsEither v sites fixes
     by (inl (i, f)) b c = inr (OutOfRange i, f)
     by (inr all) (inl many) c = inr (TooMany, (all, many))

@@ -7,7 +7,7 @@ use Rattle.std.proofs.lemmas.List.Elements.{All-nil, All-cons, All-head, All-tai
 use Rattle.sidb_layout.specs.declared.site.Site.{Site}
 use Rattle.sidb_layout.specs.declared.site.Fix.{Fix}
 use Rattle.sidb_layout.specs.Site.{IsInRange, IsFixInRange, place_at, origin}
-use Rattle.sidb_layout.specs.Refusal.{IsFirstOutside, IsFirstOutOfRange, IsEarliest, IsFirstPair, AreInRange}
+use Rattle.sidb_layout.specs.Refusal.{IsFirstOutside, IsFirstOutOfRange, IsEarliest, IsFirstPair, ArePlacesInRange}
 use Rattle.layout_laws.proofs.Decisions.{Decided, in_range, fix_in_range}
 
 -- P holds of k, and Q of all below
@@ -77,11 +77,11 @@ first_outside_or_all P decided (x ∷ xs) = by (decided x) (first_outside_or_all
     by (inl here) (inl (i, f)) = inl (suc i, record { before = All-cons P x (take i xs) here f.before; outside = f.outside })
     by (inl here) (inr all) = inr (All-cons P x xs here all)
 
-pub first_out_or_in_range : (sites : List Site) (fixes : List Fix) → ((i : ℕ) × IsFirstOutOfRange sites fixes i) ⊎ AreInRange sites fixes
+pub first_out_or_in_range : (sites : List Site) (fixes : List Fix) → ((i : ℕ) × IsFirstOutOfRange sites fixes i) ⊎ ArePlacesInRange sites fixes
 first_out_or_in_range sites fixes = by (first_outside_or_all IsInRange in_range sites) (first_outside_or_all IsFixInRange fix_in_range fixes)
   where
     by : ((i : ℕ) × IsFirstOutside IsInRange sites i) ⊎ All IsInRange sites → ((a : ℕ) × IsFirstOutside IsFixInRange fixes a) ⊎ All IsFixInRange fixes
-        → ((i : ℕ) × IsFirstOutOfRange sites fixes i) ⊎ AreInRange sites fixes
+        → ((i : ℕ) × IsFirstOutOfRange sites fixes i) ⊎ ArePlacesInRange sites fixes
     by (inl (i, f)) rest = inl (i, inl f)
     by (inr all) (inl (a, f)) = inl (length sites + a, inr (a, refl, all, f))
     by (inr all) (inr all_fixes) = inr (record { all_sites = all; all_fixes = all_fixes })

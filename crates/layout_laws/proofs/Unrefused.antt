@@ -17,7 +17,7 @@ use Rattle.sidb_layout.specs.declared.fault.LayoutFault.{LayoutFault}
 use Rattle.sidb_layout.specs.declared.fault.LayoutFault.TheVariants.{OutOfRange, TooMany, TooManyFixes, Duplicate, TooClose, Memory}
 use Rattle.sidb_layout.specs.Site.{IsInRange, IsFixInRange, IsRowBefore, IsInRowOrder, places_of, places_of_fixes, origin}
 use Rattle.sidb_layout.specs.Layout.{Arrangement, IsLayout}
-use Rattle.sidb_layout.specs.Refusal.{IsFirstPair, IsTooClose, AreDistinct, IsRefusal, IsMadeOf}
+use Rattle.sidb_layout.specs.Refusal.{IsFirstPair, IsTooClose, AreDistinct, IsLayoutRefusal, IsMadeOf}
 use Rattle.layout_laws.proofs.Decisions.{Decided, same}
 use Rattle.layout_laws.proofs.Sorting.{pairs_head, pairs_tail}
 use Rattle.layout_laws.proofs.Searches.{none_outside}
@@ -99,7 +99,7 @@ module _ (v : Lattice) (sites : List Site) (fixes : List Fix) (p : Arrangement) 
       let far = made.layout.apart _ _ (kept i i_within) (kept j f.within) (distinct i j origin f.earliest.before f.within) in
       let far_on_v = rw made.on_lattice at far in omega (arith, far_on_v, f.earliest.related)
 
-  pub not_refused : (f : LayoutFault) → IsRefusal v sites fixes f → ⊥
+  pub not_refused : (f : LayoutFault) → IsLayoutRefusal v sites fixes f → ⊥
   not_refused (OutOfRange i) (inl f) =
       none_outside IsInRange sites i
       (All-permutation IsInRange p.sites sites (IsPermutation-sym sites p.sites made.same_sites) made.layout.sites_in_range) f.outside

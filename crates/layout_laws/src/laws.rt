@@ -5,7 +5,7 @@ ghost use Rattle.sidb_layout.specs.declared.lattice.Lattice.{Lattice};
 ghost use Rattle.sidb_layout.specs.declared.fault.LayoutFault.{LayoutFault};
 ghost use Rattle.sidb_layout.specs.Site.{IsInRange, IsFixInRange, places_of};
 ghost use Rattle.sidb_layout.specs.Layout.{Arrangement};
-ghost use Rattle.sidb_layout.specs.Refusal.{IsTooClose, AreFew, AreDistinct, IsMadeOf, IsRefusal};
+ghost use Rattle.sidb_layout.specs.Refusal.{IsTooClose, AreFew, AreDistinct, IsMadeOf, IsLayoutRefusal};
 
 /// A place is in range, or it is not.
 #[tactic(auto, using(crate::proofs::Decisions::in_range))]
@@ -39,8 +39,8 @@ pub fn clear_places_make_a_layout()
 pub fn places_make_a_layout_or_are_refused()
     ensures { (v : Lattice) (sites : List Site) (fixes : List Fix)
         → ((p : Arrangement) × IsMadeOf v sites fixes p
-        × ((f : LayoutFault) → IsRefusal v sites fixes f → ⊥))
-        ⊎ ((f : LayoutFault) × IsRefusal v sites fixes f) }
+        × ((f : LayoutFault) → IsLayoutRefusal v sites fixes f → ⊥))
+        ⊎ ((f : LayoutFault) × IsLayoutRefusal v sites fixes f) }
 {
     sidb_layout::laws::distances_have_no_direction();
 }
@@ -48,5 +48,5 @@ pub fn places_make_a_layout_or_are_refused()
 /// Places and fixed charges that make a layout have no refusal.
 pub fn a_layout_is_not_refused()
     ensures { (v : Lattice) (sites : List Site) (fixes : List Fix) (p : Arrangement)
-        (f : LayoutFault) → IsMadeOf v sites fixes p → IsRefusal v sites fixes f → ⊥ }
+        (f : LayoutFault) → IsMadeOf v sites fixes p → IsLayoutRefusal v sites fixes f → ⊥ }
 {}

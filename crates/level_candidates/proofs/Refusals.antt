@@ -9,7 +9,7 @@ use Rattle.level_range_laws.specs.RangePrefixes.{can_be_in, is_open_in}
 use Rattle.level_range_laws.proofs.StandardFacts.{three_levels}
 use Rattle.level_candidates.specs.Ends.{Allows}
 use Rattle.level_candidates.specs.Plans.{AreLevels}
-use Rattle.level_candidates.specs.Subtree.{prefixes_under, IsPath}
+use Rattle.level_candidates.specs.Subtree.{prefixes_under, IsRangePath}
 use Rattle.level_candidates.proofs.StandardFacts.{three_prefixes_there}
 
 negative_no_higher : Allows Neg (pos 5) (neg_ℤ (pos 3)) (neg_ℤ (pos 7)) (neg_ℤ (pos 2)) → ⊥
@@ -30,6 +30,6 @@ no_level_so_low are = let small = are.first_small in omega (arith, small)
 no_other_count : prefixes_under one_site three_levels [] ≡ 4 → ⊥
 no_other_count e = let three = three_prefixes_there in omega (arith, three, e)
 
-no_positive_path : IsPath one_site three_levels [] (Pos ∷ []) → ⊥
+no_positive_path : IsRangePath one_site three_levels [] (Pos ∷ []) → ⊥
 unfolding is_open_in can_be_in greatest_potential greatest_fixed may_be_positive least_potential least_fixed class_of near_class_of
 no_positive_path path = let wrong = path.1 in absurd (cc)

@@ -9,7 +9,7 @@ use Rattle.level_range_laws.specs.RangePrefixes.{can_be_in, is_open_in}
 use Rattle.level_range_laws.proofs.StandardFacts.{three_levels}
 use Rattle.level_candidates.specs.Ends.{Allows}
 use Rattle.level_candidates.specs.Plans.{AreLevels, raise_of}
-use Rattle.level_candidates.specs.Subtree.{prefixes_under, IsPath}
+use Rattle.level_candidates.specs.Subtree.{prefixes_under, IsRangePath}
 
 -- a potential from -7 to -3 and a gap of 5: negative up to the greatest, neutral from the least up to the greatest and the gap
 negative_up_to_it : Allows Neg (pos 5) (neg_ℤ (pos 3)) (neg_ℤ (pos 7)) (neg_ℤ (pos 3))
@@ -33,6 +33,6 @@ no_raise : raise_of one_site (pos 0) 0 0 ≡ pos 0
 unfolding raise_of
 no_raise = refl
 
-neutral_path : IsPath one_site three_levels [] (Neutral ∷ [])
+neutral_path : IsRangePath one_site three_levels [] (Neutral ∷ [])
 unfolding is_open_in can_be_in greatest_potential greatest_fixed may_be_positive least_potential least_fixed class_of near_class_of
 neutral_path = (refl, refl)

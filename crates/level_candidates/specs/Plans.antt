@@ -12,7 +12,7 @@ use Rattle.prefix_extremes.specs.declared.extremes.Extremes.{Extremes}
 use Rattle.level_range_laws.specs.declared.interval.Interval.{Interval}
 use Rattle.level_range_laws.specs.Levels.{at_level, gap_of}
 use Rattle.level_range_laws.specs.RangePrefixes.{can_be_in}
-use Rattle.level_candidates.specs.declared.plan.Plan.{Plan}
+use Rattle.level_candidates.specs.declared.plan.LevelPlan.{LevelPlan}
 use Rattle.level_candidates.specs.declared.raises.RaiseRow.{RaiseRow}
 use Rattle.level_candidates.specs.declared.plan.Limits.{Limits}
 
@@ -63,7 +63,7 @@ pub record AreRaiseRows (p : Problem) (last : ℤ) (n : ℕ) (rows : List RaiseR
   pub each : (d : ℕ) (x : RaiseRow) → d < n → IsRaiseRow p last d (slice_index_or rows d x)
 
 -- the limits, and the raises, of the levels
-pub record IsPlan (p : Problem) (plan : Plan) : Type 0 where
+pub record IsLevelPlan (p : Problem) (plan : LevelPlan) : Type 0 where
   pub limits : AreLimits p plan.levels plan.limits
   pub raises : AreRaiseRows p plan.levels.last (p.sites + 1) plan.raises.items
 

@@ -12,7 +12,7 @@ mod searcher;
 mod searching;
 
 pub use answer::CandidatesAnswer;
-pub use candidate::{Candidate, is_lower, is_never_above};
+pub use candidate::{LevelCandidate, is_lower, is_never_above};
 pub use ends::{Ends, includes, is_empty};
 pub use level_range_laws::Interval;
 pub use searching::candidates_in;

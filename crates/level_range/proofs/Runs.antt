@@ -11,32 +11,32 @@ use Rattle.level_range_laws.specs.declared.interval.Interval.{Interval}
 use Rattle.level_range_laws.specs.Levels.{IsIn, IsPossibleAt, IsCertainAt, HaveSameValidity}
 use Rattle.level_range_laws.specs.Answers.{Outcome, IsAnswerAt}
 use Rattle.level_range_laws.proofs.Agreement.{answer_too}
-use Rattle.level_candidates.specs.declared.candidate.Candidate.{Candidate}
-use Rattle.level_candidates.specs.Candidates.{AreCandidates, charges_of}
+use Rattle.level_candidates.specs.declared.candidate.LevelCandidate.{LevelCandidate}
+use Rattle.level_candidates.specs.Candidates.{AreCandidates, lists_of_level_candidates}
 use Rattle.level_range.specs.Answering.{HasSameLevels, NothingChanges}
 use Rattle.level_range.proofs.Listing.{IsSetting, charges_at, measured_at, possible_in, certain_in, certain_possible}
 
 -- the candidate in a place
-found_in : (xs : List Candidate) (k : ℕ) → k < length xs → (x : Candidate) × (x ≡ get_or xs k x)
+found_in : (xs : List LevelCandidate) (k : ℕ) → k < length xs → (x : LevelCandidate) × (x ≡ get_or xs k x)
 found_in [] k l = absurd (omega (arith, l))
 found_in (x ∷ xs) zero l = (x, refl)
 found_in (x ∷ xs) (suc k) l = found_in xs k (omega (arith, l))
 
 -- a candidate with this charge list
-record IsMember (xs : List Candidate) (c : List Charge) : Type 0 where
+record IsMember (xs : List LevelCandidate) (c : List Charge) : Type 0 where
   place : ℕ
-  member : Candidate
+  member : LevelCandidate
   within : place < length xs
   is : member ≡ get_or xs place member
   charges : member.charges ≡ c
 
-member_of : (xs : List Candidate) (c : List Charge) → Contains (charges_of xs) c → IsMember xs c
+member_of : (xs : List LevelCandidate) (c : List Charge) → Contains (lists_of_level_candidates xs) c → IsMember xs c
 member_of xs c (k, lt, e) =
     let within : k < length xs = subst (λ n. k < n) (length-map xs (λ y. y.charges)) lt in
     let x = found_in xs k within in
     record { place = k; member = x.0; within = within; is = x.1; charges = sym (charges_at xs k x.0 within x.1 c) ∙ e }
 
-possible_moves : (p : Problem) (levels : Interval) (xs : List Candidate) (a b : ℤ) → AreCandidates p levels xs → IsIn levels a → IsIn levels b
+possible_moves : (p : Problem) (levels : Interval) (xs : List LevelCandidate) (a b : ℤ) → AreCandidates p levels xs → IsIn levels a → IsIn levels b
     → All (λ x. IsIn x.ends.possible a → IsIn x.ends.possible b) xs → (c : List Charge) → IsChargeList p c → IsPossibleAt p a c → IsPossibleAt p b c
 possible_moves p levels xs a b all at to moves c list h =
     let found = member_of xs c (all.lists.each c (record { is_list = list; level = a; inside = at; possible = h })) in
@@ -46,7 +46,7 @@ possible_moves p levels xs a b all at to moves c list h =
     let there = subst (λ y. IsIn y.ends.possible a → IsIn y.ends.possible b) (sym found.is) (moves found.place x found.within) here in
     subst (IsPossibleAt p b) found.charges ((possible_in p levels b x to measured).0 there)
 
-certain_moves : (p : Problem) (levels : Interval) (xs : List Candidate) (a b : ℤ) → IsSetting p levels xs a → IsIn levels b
+certain_moves : (p : Problem) (levels : Interval) (xs : List LevelCandidate) (a b : ℤ) → IsSetting p levels xs a → IsIn levels b
     → All (λ x. IsIn x.ends.certain a → IsIn x.ends.certain b) xs → (c : List Charge) → IsChargeList p c → IsCertainAt p a c → IsCertainAt p b c
 certain_moves p levels xs a b set to moves c list h =
     let found = member_of xs c (set.all.lists.each c (record { is_list = list; level = a; inside = set.inside; possible = certain_possible p a c set.tables h })) in
@@ -57,7 +57,7 @@ certain_moves p levels xs a b set to moves c list h =
     subst (IsCertainAt p b) found.charges ((certain_in p levels b x to measured).0 there)
 
 -- levels between which no candidate begins or ends to be valid have the same answers
-pub levels_agree : (p : Problem) (levels : Interval) (xs : List Candidate) (a b : ℤ) → IsSetting p levels xs a → IsIn levels b → All (λ x. HasSameLevels x a b) xs → HaveSameValidity p a b
+pub levels_agree : (p : Problem) (levels : Interval) (xs : List LevelCandidate) (a b : ℤ) → IsSetting p levels xs a → IsIn levels b → All (λ x. HasSameLevels x a b) xs → HaveSameValidity p a b
 levels_agree p levels xs a b set to same =
     let back : IsSetting p levels xs b = record { tables = set.tables; all = set.all; inside = to } in
     record {
@@ -71,7 +71,7 @@ levels_agree p levels xs a b set to same =
       );
     }
 
-pub answers_until : (p : Problem) (levels : Interval) (xs : List Candidate) (a next : ℤ) (answer : List Outcome) → IsSetting p levels xs a → next ≤ℤ (levels.last +ℤ pos 1) → NothingChanges xs a next → IsAnswerAt p a answer
+pub answers_until : (p : Problem) (levels : Interval) (xs : List LevelCandidate) (a next : ℤ) (answer : List Outcome) → IsSetting p levels xs a → next ≤ℤ (levels.last +ℤ pos 1) → NothingChanges xs a next → IsAnswerAt p a answer
     → (m : ℤ) → a ≤ℤ m → m <ℤ next → IsAnswerAt p m answer
 answers_until p levels xs a next answer set within same h m low high =
     let from = set.inside.from in

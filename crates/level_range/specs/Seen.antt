@@ -3,14 +3,14 @@ use Rattle.std.specs.Prelude.{List, [], map, Option, Some, None, if◌then◌els
 use Rattle.level_range_laws.specs.Answers.{Outcome}
 use Rattle.level_range_laws.specs.Parts.{Printed}
 use Rattle.level_range.specs.declared.entries.PartEntry.{PartEntry}
-use Rattle.level_range.specs.declared.entries.Part.{Part}
+use Rattle.level_range.specs.declared.entries.PrintedPart.{PrintedPart}
 
 -- an entry of an answer
 abbrev pub outcome_of : PartEntry → Outcome
 outcome_of e = record { charges = e.charges; certain = e.certain }
 
 -- a run of levels with its answer, or with none where it is split
-abbrev pub printed_of : Part → Printed
+abbrev pub printed_of : PrintedPart → Printed
 printed_of x = record {
   first = x.first.value;
   last = x.last.value;

@@ -1,15 +1,15 @@
 ghost use Rattle.std.specs.Prelude.{◌≡◌, ◌<◌, ◌↔◌, [], length, map, All, IfOk, IfSome, IsTrue, slice_index_or};
 ghost use Rattle.charge_model.specs.GroundList.{IsGroundList, IsListed, IsCertain};
 ghost use Rattle.level_range_laws.specs.Levels.{IsIn, at_level};
-ghost use Rattle.level_range_laws.specs.Answers.{IsAnswerAt, lists_of};
-ghost use Rattle.level_candidates.specs.Candidates.{AreCandidates, charges_of};
+ghost use Rattle.level_range_laws.specs.Answers.{IsAnswerAt, lists_of_outcomes};
+ghost use Rattle.level_candidates.specs.Candidates.{AreCandidates, lists_of_level_candidates};
 ghost use Rattle.level_range.specs.Seen.{outcome_of};
 ghost use Rattle.level_range.specs.Answering.{picked};
 
 use crate::entries::PartEntry;
 use crate::guessing::best_at;
 use charge_model::laws::problems_have_tables;
-use level_candidates::{Candidate, Interval, includes, is_lower, is_never_above};
+use level_candidates::{Interval, LevelCandidate, includes, is_lower, is_never_above};
 use potential_problem::Problem;
 use prefix_extremes::Amount;
 use sidb_units::Memory;
@@ -20,7 +20,7 @@ use std::alloc::Global;
 fn is_beaten_by(
     alloc: Global,
     problem: &Problem,
-    all: &[Candidate],
+    all: &[LevelCandidate],
     _levels: Interval,
     level: Amount,
     i: usize,
@@ -31,7 +31,7 @@ fn is_beaten_by(
     requires winner { i < length all.now }
     requires place { k < length all.now }
     ensures { IfOk result (λ b. IsTrue b → IsListed (at_level problem.now level.value)
-        (slice_index_or (charges_of all.now) k []) → ⊥) }
+        (slice_index_or (lists_of_level_candidates all.now) k []) → ⊥) }
 {
     let winner = &all[i];
     let list = &all[k];
@@ -47,7 +47,7 @@ fn is_beaten_by(
 fn is_listed_at(
     alloc: Global,
     problem: &Problem,
-    all: &[Candidate],
+    all: &[LevelCandidate],
     _levels: Interval,
     level: Amount,
     k: usize,
@@ -56,7 +56,8 @@ fn is_listed_at(
     requires level { IsIn _levels level.value }
     requires place { k < length all.now }
     ensures { IfOk result (λ b. IsTrue b
-        ↔ IsListed (at_level problem.now level.value) (slice_index_or (charges_of all.now) k [])) }
+        ↔ IsListed (at_level problem.now level.value)
+        (slice_index_or (lists_of_level_candidates all.now) k [])) }
 {
     problems_have_tables();
     let _known = problem.sites();
@@ -77,7 +78,7 @@ fn is_listed_at(
 fn is_listed_trying(
     alloc: Global,
     problem: &Problem,
-    all: &[Candidate],
+    all: &[LevelCandidate],
     levels: Interval,
     level: Amount,
     guess: Option<usize>,
@@ -88,7 +89,8 @@ fn is_listed_trying(
     requires guess { IfSome guess (λ i. i < length all.now) }
     requires place { k < length all.now }
     ensures { IfOk result (λ b. IsTrue b
-        ↔ IsListed (at_level problem.now level.value) (slice_index_or (charges_of all.now) k [])) }
+        ↔ IsListed (at_level problem.now level.value)
+        (slice_index_or (lists_of_level_candidates all.now) k [])) }
 {
     if let Some(i) = guess {
         if includes(all[k].ends.possible, level)
@@ -104,7 +106,7 @@ fn is_listed_trying(
 fn listed_at(
     alloc: Global,
     problem: &Problem,
-    all: &[Candidate],
+    all: &[LevelCandidate],
     levels: Interval,
     level: Amount,
 ) -> Result<Vec<usize>, Memory>
@@ -131,7 +133,7 @@ fn listed_at(
 fn is_certain_at(
     alloc: Global,
     problem: &Problem,
-    all: &[Candidate],
+    all: &[LevelCandidate],
     _levels: Interval,
     level: Amount,
     places: &[usize],
@@ -142,7 +144,7 @@ fn is_certain_at(
     requires places { All (λ j. j < length all.now) places.now }
     requires place { k < length all.now }
     ensures { IfOk result (λ b. IsTrue b ↔ IsCertain (at_level problem.now level.value)
-        (picked all.now places.now) (slice_index_or (charges_of all.now) k [])) }
+        (picked all.now places.now) (slice_index_or (lists_of_level_candidates all.now) k [])) }
 {
     let list = &all[k];
     if !includes(list.ends.certain, level) {
@@ -160,7 +162,7 @@ fn is_certain_at(
 fn entries_of(
     alloc: Global,
     problem: &Problem,
-    all: &[Candidate],
+    all: &[LevelCandidate],
     levels: Interval,
     level: Amount,
     places: &[usize],
@@ -169,7 +171,7 @@ fn entries_of(
     requires level { IsIn levels level.value }
     requires places { All (λ j. j < length all.now) places.now }
     ensures lists { IfOk result
-        (λ v. lists_of (map outcome_of v.items) ≡ picked all.now places.now) }
+        (λ v. lists_of_outcomes (map outcome_of v.items) ≡ picked all.now places.now) }
     ensures certain { IfOk result (λ v. All (λ o. IsTrue o.certain
         ↔ IsCertain (at_level problem.now level.value) (picked all.now places.now) o.charges)
         (map outcome_of v.items)) }
@@ -187,7 +189,7 @@ fn entries_of(
 pub fn answer_at(
     alloc: Global,
     problem: &Problem,
-    all: &[Candidate],
+    all: &[LevelCandidate],
     levels: Interval,
     level: Amount,
 ) -> Result<Vec<PartEntry>, Memory>

@@ -1,11 +1,11 @@
 // A list that beats most others at a level, tried before the others: what it finds is not promised.
 ghost use Rattle.std.specs.Prelude.{◌<◌, length, IfSome};
 
-use level_candidates::{Candidate, includes};
+use level_candidates::{LevelCandidate, includes};
 use prefix_extremes::Amount;
 
 /// Whether candidate i has a lower greatest energy than the best so far, or none is there so far.
-fn is_better(all: &[Candidate], i: usize, best: Option<usize>) -> bool
+fn is_better(all: &[LevelCandidate], i: usize, best: Option<usize>) -> bool
     requires place { i < length all.now }
     requires best { IfSome best (λ k. k < length all.now) }
 {
@@ -17,7 +17,7 @@ fn is_better(all: &[Candidate], i: usize, best: Option<usize>) -> bool
 
 /// The place of a list with the lowest greatest energy among those that are certainly valid at a
 /// level.
-pub fn best_at(all: &[Candidate], level: Amount) -> Option<usize>
+pub fn best_at(all: &[LevelCandidate], level: Amount) -> Option<usize>
     ensures { IfSome result (λ k. k < length all.now) }
 {
     let mut best = None;

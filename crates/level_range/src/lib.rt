@@ -12,7 +12,7 @@ mod range_answer;
 
 pub use answers::answer_at;
 pub use changes::next_change;
-pub use entries::{Part, PartEntry, same_entries};
+pub use entries::{PartEntry, PrintedPart, same_entries};
 pub use level_candidates::Interval;
 pub use parts::{MAX_PARTS, parts_of};
 pub use parts_list::Parts;

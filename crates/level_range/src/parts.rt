@@ -7,9 +7,9 @@ ghost use Rattle.level_range.specs.Seen.{outcome_of, printed_of};
 
 use crate::answers::answer_at;
 use crate::changes::{first_of, is_below, next_change};
-use crate::entries::{Part, PartEntry, same_entries};
+use crate::entries::{PartEntry, PrintedPart, same_entries};
 use charge_model::laws::problems_have_tables;
-use level_candidates::{Candidate, Interval};
+use level_candidates::{Interval, LevelCandidate};
 use potential_problem::Problem;
 use prefix_extremes::Amount;
 use sidb_units::Memory;
@@ -37,11 +37,11 @@ fn before(level: Amount, _levels: Interval) -> Amount
 }
 
 /// A part with its answer.
-fn whole(first: Amount, last: Amount, entries: Vec<PartEntry>) -> Part
+fn whole(first: Amount, last: Amount, entries: Vec<PartEntry>) -> PrintedPart
     ensures { printed_of result
         ≡ printed_whole first.value last.value (map outcome_of entries.items) }
 {
-    Part {
+    PrintedPart {
         first,
         last,
         split: false,
@@ -50,10 +50,10 @@ fn whole(first: Amount, last: Amount, entries: Vec<PartEntry>) -> Part
 }
 
 /// The levels of several parts.
-fn split(first: Amount, last: Amount, alloc: Global) -> Part
+fn split(first: Amount, last: Amount, alloc: Global) -> PrintedPart
     ensures { printed_of result ≡ printed_split first.value last.value }
 {
-    Part {
+    PrintedPart {
         first,
         last,
         split: true,
@@ -65,9 +65,9 @@ fn split(first: Amount, last: Amount, alloc: Global) -> Part
 pub fn parts_of(
     alloc: Global,
     problem: &Problem,
-    all: &[Candidate],
+    all: &[LevelCandidate],
     levels: Interval,
-) -> Result<Vec<Part>, Memory>
+) -> Result<Vec<PrintedPart>, Memory>
     requires all { AreCandidates problem.now levels all.now }
     requires levels { AreLevels levels }
     requires some { levels.first ≤ℤ levels.last }

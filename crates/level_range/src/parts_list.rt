@@ -2,13 +2,13 @@ ghost use Rattle.std.specs.Prelude.{◌≡◌, ◌<◌, ◌↔◌, length, IsTru
 ghost use Rattle.level_range_laws.specs.Parts.{printed_at};
 ghost use Rattle.level_range.specs.Seen.{outcome_of, entries_in};
 
-use crate::entries::{Part, PartEntry};
+use crate::entries::{PartEntry, PrintedPart};
 use std::marker::Model;
 
 /// The printed parts of an interval of levels.
 #[derive(Drop)]
 pub struct Parts {
-    pub(crate) parts: Vec<Part>,
+    pub(crate) parts: Vec<PrintedPart>,
 }
 
 impl Model for Parts {

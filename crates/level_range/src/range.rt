@@ -1,6 +1,6 @@
 ghost use Rattle.std.specs.Prelude.{◌≡◌, ◌≤ℤ◌, ◌≤◌, neg_ℤ, pos, ◌*◌, ◌^◌};
 ghost use Rattle.level_range_laws.specs.Parts.{ArePrinted};
-ghost use Rattle.level_candidates.specs.Answer.{AreWithin};
+ghost use Rattle.level_candidates.specs.Answer.{AreCandidatesWithin};
 ghost use Rattle.level_candidates.specs.Plans.{AreLevels};
 ghost use Rattle.level_range.specs.Answer.{IsAnswerOver, levels_of};
 ghost use Rattle.sidb_units.specs.declared.TheConstants.{MAX_NODES};

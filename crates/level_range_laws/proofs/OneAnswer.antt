@@ -10,7 +10,7 @@ use Rattle.charge_model.specs.GroundList.{IsCertain}
 use Rattle.ground_list_laws.proofs.AtZero.{ground_list_unique}
 use Rattle.level_range_laws.specs.declared.interval.Interval.{Interval}
 use Rattle.level_range_laws.specs.Levels.{at_level}
-use Rattle.level_range_laws.specs.Answers.{Outcome, lists_of, IsAnswerAt}
+use Rattle.level_range_laws.specs.Answers.{Outcome, lists_of_outcomes, IsAnswerAt}
 use Rattle.level_range_laws.specs.Parts.{IsPart, Printed, HasChange, IsPrintedPart, Follow, ArePrinted}
 
 same_bits : (Q : Type 0) (a b : Bool) → (IsTrue a ↔ Q) → (IsTrue b ↔ Q) → a ≡ b
@@ -23,13 +23,13 @@ abbrev made : List Charge → Bool → Outcome
 made c b = record { charges = c; certain = b }
 
 -- entries that tell the same property of the same lists are the same
-same_entries : (Q : List Charge → Type 0) (a b : List Outcome) → lists_of a ≡ lists_of b → All (λ o. IsTrue o.certain ↔ Q o.charges) a → All (λ o. IsTrue o.certain ↔ Q o.charges) b → a ≡ b
+same_entries : (Q : List Charge → Type 0) (a b : List Outcome) → lists_of_outcomes a ≡ lists_of_outcomes b → All (λ o. IsTrue o.certain ↔ Q o.charges) a → All (λ o. IsTrue o.certain ↔ Q o.charges) b → a ≡ b
 same_entries Q [] [] e f g = refl
 same_entries Q [] (y ∷ ys) e f g = absurd (cc)
 same_entries Q (x ∷ xs) [] e f g = absurd (cc)
 same_entries Q (x ∷ xs) (y ∷ ys) e f g =
     let here : x.charges ≡ y.charges = cc in
-    let rest : lists_of xs ≡ lists_of ys = cc in
+    let rest : lists_of_outcomes xs ≡ lists_of_outcomes ys = cc in
     let first = All-head (λ o. IsTrue o.certain ↔ Q o.charges) x xs f in
     let second = All-head (λ o. IsTrue o.certain ↔ Q o.charges) y ys g in
     let bit = same_bits (Q x.charges) x.certain y.certain first (subst (λ c. IsTrue y.certain ↔ Q c) (sym here) second) in
@@ -42,8 +42,8 @@ same_entries Q (x ∷ xs) (y ∷ ys) e f g =
 
 pub one_answer : (p : Problem) (m : ℤ) (a b : List Outcome) → IsAnswerAt p m a → IsAnswerAt p m b → a ≡ b
 one_answer p m a b h k =
-    let lists = ground_list_unique (at_level p m) (lists_of a) (lists_of b) h.ground k.ground in
-    same_entries (IsCertain (at_level p m) (lists_of a)) a b lists h.certain
+    let lists = ground_list_unique (at_level p m) (lists_of_outcomes a) (lists_of_outcomes b) h.ground k.ground in
+    same_entries (IsCertain (at_level p m) (lists_of_outcomes a)) a b lists h.certain
     (subst (λ l. All (λ o. IsTrue o.certain ↔ IsCertain (at_level p m) l o.charges) b) (sym lists) k.certain)
 
 -- two printed parts that begin at one level

@@ -10,10 +10,10 @@ use Rattle.charge_model.specs.declared.mark.Mark.{Mark}
 use Rattle.charge_model.specs.declared.mark.Mark.TheVariants.{Certain, Unresolved}
 use Rattle.charge_model.specs.Problem.{Problem, UnderEveryTable, UnderSomeTable}
 use Rattle.charge_model.specs.Rules.{energy, slack, IsGroundState}
-use Rattle.charge_model.specs.GroundList.{Comparison, own, rival, IsComparisonOf, comparison_slack, comparison_of, IsCertain, IsMark, IsGroundList, Entry, IsMarkedGroundList, lists_of as charges_of}
+use Rattle.charge_model.specs.GroundList.{Comparison, own, rival, IsComparisonOf, comparison_slack, comparison_of, IsCertain, IsMark, IsGroundList, Entry, IsMarkedGroundList, lists_of as charges_of, is_certain}
 use Rattle.ground_list_laws.proofs.AtZero.{lists_each_least, certain_is_least}
 use Rattle.level_range_laws.specs.Levels.{at_level}
-use Rattle.level_range_laws.specs.Answers.{Outcome, lists_of, IsAnswerAt, is_certain, outcomes_of}
+use Rattle.level_range_laws.specs.Answers.{Outcome, lists_of_outcomes, IsAnswerAt, outcomes_of}
 use Rattle.level_range_laws.proofs.LevelFacts.{table_at}
 
 not_both : (x : ℤ) → x <ℤ pos 0 → pos 0 ≤ℤ x → ⊥
@@ -31,7 +31,7 @@ mark_tells : (p : Problem) (l : List (List Charge)) (c : List Charge) (m : Mark)
 mark_tells p l c Certain is = (λ e. is, λ h. refl)
 mark_tells p l c (Unresolved d) is = (λ e. absurd (false≢true e), λ h. absurd (none_fails p l c (comparison_of d) h is.of_list is.fails))
 
-same_lists : (es : List Entry) → lists_of (outcomes_of es) ≡ charges_of es
+same_lists : (es : List Entry) → lists_of_outcomes (outcomes_of es) ≡ charges_of es
 same_lists [] = refl
 same_lists (e ∷ es) = ap (λ l. e.charges ∷ l) (same_lists es)
 
@@ -42,7 +42,7 @@ marks_tell p l es marks = All-map (λ o. IsTrue o.certain ↔ IsCertain p l o.ch
 pub answer_of_marks : (p : Problem) (m : ℤ) (es : List Entry) → IsMarkedGroundList (at_level p m) es → IsAnswerAt p m (outcomes_of es)
 answer_of_marks p m es h = record {
   ground = subst (IsGroundList (at_level p m)) (sym (same_lists es)) h.ground;
-  certain = marks_tell_at (lists_of (outcomes_of es)) (same_lists es);
+  certain = marks_tell_at (lists_of_outcomes (outcomes_of es)) (same_lists es);
 }
   where
     marks_tell_at : (l : List (List Charge)) → l ≡ charges_of es → All (λ o. IsTrue o.certain ↔ IsCertain (at_level p m) l o.charges) (outcomes_of es)
@@ -50,15 +50,15 @@ answer_of_marks p m es h = record {
 
 -- under every table each ground state at a level is in the answer
 pub answer_lists_each : (p : Problem) (m : ℤ) (answer : List Outcome) → IsAnswerAt p m answer
-    → UnderEveryTable p (λ t. (c : List Charge) → IsGroundState (at_level p m) t c → Contains (lists_of answer) c)
-answer_lists_each p m answer h t is = lists_each_least (at_level p m) (lists_of answer) h.ground t (table_at p m t is)
+    → UnderEveryTable p (λ t. (c : List Charge) → IsGroundState (at_level p m) t c → Contains (lists_of_outcomes answer) c)
+answer_lists_each p m answer h t is = lists_each_least (at_level p m) (lists_of_outcomes answer) h.ground t (table_at p m t is)
 
-contains_list : (answer : List Outcome) (o : Outcome) → Contains answer o → Contains (lists_of answer) o.charges
+contains_list : (answer : List Outcome) (o : Outcome) → Contains answer o → Contains (lists_of_outcomes answer) o.charges
 contains_list answer o (k, lt, is) = (k, rw length-map lt, get_or-map (λ d. d.charges) answer k o o.charges lt ∙ ap (λ d. d.charges) is)
 
 -- under every table a certain entry is a ground state
 pub certain_entry_is_ground : (p : Problem) (m : ℤ) (answer : List Outcome) (o : Outcome) → IsAnswerAt p m answer → Contains answer o → IsTrue o.certain
     → UnderEveryTable p (λ t. IsGroundState (at_level p m) t o.charges)
 certain_entry_is_ground p m answer o h held certain t is =
-    let mark = All-contains (λ d. IsTrue d.certain ↔ IsCertain (at_level p m) (lists_of answer) d.charges) answer o h.certain held in
-    certain_is_least (at_level p m) (lists_of answer) o.charges h.ground (contains_list answer o held) (mark.0 certain) t (table_at p m t is)
+    let mark = All-contains (λ d. IsTrue d.certain ↔ IsCertain (at_level p m) (lists_of_outcomes answer) d.charges) answer o h.certain held in
+    certain_is_least (at_level p m) (lists_of_outcomes answer) o.charges h.ground (contains_list answer o held) (mark.0 certain) t (table_at p m t is)

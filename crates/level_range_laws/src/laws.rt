@@ -7,7 +7,7 @@ ghost use Rattle.level_range_laws.specs.declared.interval.Interval.{Interval};
 ghost use Rattle.level_range_laws.specs.Levels.{at_level, IsIn, IsPossibleAt, IsCertainAt, IsCandidateIn, HaveSameValidity};
 ghost use Rattle.level_range_laws.specs.Candidates.{AreAllCandidates};
 ghost use Rattle.level_range_laws.specs.RangePrefixes.{IsRangePrefix, ListsRangePrefixes, range_prefix_count};
-ghost use Rattle.level_range_laws.specs.Answers.{Outcome, lists_of, IsAnswerAt, outcomes_of};
+ghost use Rattle.level_range_laws.specs.Answers.{Outcome, lists_of_outcomes, IsAnswerAt, outcomes_of};
 ghost use Rattle.level_range_laws.specs.Parts.{Printed, ArePrinted, IsInOne};
 
 /// The levels at which a list is possibly valid have no gap, nor have those at which it is
@@ -61,7 +61,7 @@ pub fn marked_lists_are_answers()
 pub fn answers_hold_ground_states()
     ensures listed { (p : Problem) (level : ℤ) (answer : List Outcome)
         → IsAnswerAt p level answer → UnderEveryTable p (λ t. (c : List Charge)
-        → IsGroundState (at_level p level) t c → Contains (lists_of answer) c) }
+        → IsGroundState (at_level p level) t c → Contains (lists_of_outcomes answer) c) }
     ensures certain { (p : Problem) (level : ℤ) (answer : List Outcome) (o : Outcome)
         → IsAnswerAt p level answer → Contains answer o → IsTrue o.certain
         → UnderEveryTable p (λ t. IsGroundState (at_level p level) t o.charges) }

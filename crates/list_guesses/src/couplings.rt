@@ -1,6 +1,6 @@
 ghost use Rattle.std.specs.Prelude.{◌≡◌, ◌<◌, ◌↔◌, IfOk, IsTrue};
 
-use crate::row::Row;
+use crate::row::SiteNumbers;
 use charge_model::Span;
 use potential_problem::Problem;
 use sidb_units::Memory;
@@ -14,13 +14,13 @@ pub struct Couplings {
     pub positive: bool,
     pub minus: i64,
     pub plus: i64,
-    pub fixed: Row,
-    rows: Vec<Row>,
+    pub fixed: SiteNumbers,
+    rows: Vec<SiteNumbers>,
 }
 
 impl Couplings {
     /// The potentials of site i with each site, zero with itself.
-    pub fn row(&self, i: usize) -> &Row {
+    pub fn row(&self, i: usize) -> &SiteNumbers {
         match self.rows.get(i) {
             Some(row) => row,
             None => &self.fixed,
@@ -46,10 +46,10 @@ fn fixed_potential(problem: &Problem, i: usize) -> i64
 }
 
 /// The potentials of a site with each other site.
-fn site_row(problem: &Problem, i: usize) -> Row
+fn site_row(problem: &Problem, i: usize) -> SiteNumbers
     requires { i < problem.now.sites }
 {
-    let mut row = Row::zero();
+    let mut row = SiteNumbers::zero();
     for j in 0..problem.sites() {
         if j != i {
             row.add(j, middle(problem.span(problem.class(i, j))));
@@ -65,7 +65,7 @@ pub fn couplings_of(alloc: Global, problem: &Problem) -> Result<Couplings, Memor
     ensures minus { IfOk result (λ c. c.minus ≡ problem.now.mu_minus) }
     ensures plus { IfOk result (λ c. c.plus ≡ problem.now.mu_plus) }
 {
-    let mut fixed = Row::zero();
+    let mut fixed = SiteNumbers::zero();
     let mut rows = Vec::new(alloc);
     for i in 0..problem.sites() {
         fixed.add(i, fixed_potential(problem, i));

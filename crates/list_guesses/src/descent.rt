@@ -3,7 +3,7 @@ use crate::guess::Guess;
 
 /// A change of one site, and what it costs.
 #[derive(Clone, Copy)]
-struct Step {
+struct SiteChange {
     site: usize,
     by: i64,
     cost: i64,
@@ -18,7 +18,7 @@ struct Hop {
 }
 
 /// The change of a site by one that its tests call for: it costs less than 0 where a test fails.
-fn site_step(couplings: &Couplings, guess: &Guess, site: usize) -> Step {
+fn site_step(couplings: &Couplings, guess: &Guess, site: usize) -> SiteChange {
     let potential = guess.potential(site);
     let number = guess.number(site);
     let (by, cost) = if number < 0 {
@@ -32,12 +32,12 @@ fn site_step(couplings: &Couplings, guess: &Guess, site: usize) -> Step {
     } else {
         (0, 0)
     };
-    Step { site, by, cost }
+    SiteChange { site, by, cost }
 }
 
 /// The cheapest change of a site other than the one that is kept.
-fn best_step(couplings: &Couplings, guess: &Guess, kept: usize) -> Step {
-    let mut best = Step {
+fn best_step(couplings: &Couplings, guess: &Guess, kept: usize) -> SiteChange {
+    let mut best = SiteChange {
         site: kept,
         by: 0,
         cost: 0,

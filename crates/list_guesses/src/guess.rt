@@ -1,11 +1,11 @@
 use crate::couplings::Couplings;
-use crate::row::Row;
+use crate::row::SiteNumbers;
 
 /// A charge list that may be a good one: the number of each site, the potentials, and the energy.
 #[derive(Clone, Copy)]
 pub struct Guess {
-    numbers: Row,
-    potentials: Row,
+    numbers: SiteNumbers,
+    potentials: SiteNumbers,
     pub energy: i64,
 }
 
@@ -13,7 +13,7 @@ impl Guess {
     /// Each site is neutral.
     pub fn neutral(couplings: &Couplings) -> Guess {
         Guess {
-            numbers: Row::zero(),
+            numbers: SiteNumbers::zero(),
             potentials: couplings.fixed,
             energy: 0,
         }

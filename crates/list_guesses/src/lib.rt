@@ -11,5 +11,5 @@ mod widening;
 pub use couplings::{Couplings, couplings_of};
 pub use descent::settle;
 pub use guess::Guess;
-pub use row::Row;
+pub use row::SiteNumbers;
 pub use widening::wide_guesses;

@@ -2,14 +2,14 @@ use charge_model::MAX_SITES;
 
 /// A whole number for each site.
 #[derive(Clone, Copy)]
-pub struct Row {
+pub struct SiteNumbers {
     at: [i64; MAX_SITES],
 }
 
-impl Row {
+impl SiteNumbers {
     /// Zero for each site.
-    pub fn zero() -> Row {
-        Row { at: [0; MAX_SITES] }
+    pub fn zero() -> SiteNumbers {
+        SiteNumbers { at: [0; MAX_SITES] }
     }
 
     /// The number of site k; zero past the last.

@@ -1,6 +1,6 @@
 use crate::couplings::Couplings;
 use crate::guess::Guess;
-use crate::row::Row;
+use crate::row::SiteNumbers;
 use sidb_units::Memory;
 use std::alloc::Global;
 
@@ -10,21 +10,21 @@ const WIDTH: usize = 64;
 /// What the sites past a prefix may add to each potential, and which sites may be positive.
 #[derive(Clone, Copy)]
 struct Rest {
-    least: Row,
-    greatest: Row,
-    may: Row,
+    least: SiteNumbers,
+    greatest: SiteNumbers,
+    may: SiteNumbers,
 }
 
 /// A prefix, whose other sites are neutral, and a bound on its completions.
 #[derive(Clone, Copy)]
-struct Branch {
+struct GuessedPrefix {
     guess: Guess,
     bound: i64,
 }
 
 /// 1 for each site that may be positive.
-fn positive_sites(couplings: &Couplings) -> Row {
-    let mut may = Row::zero();
+fn positive_sites(couplings: &Couplings) -> SiteNumbers {
+    let mut may = SiteNumbers::zero();
     for k in 0..couplings.sites {
         let mut least = couplings.fixed.get(k);
         for j in 0..couplings.sites {
@@ -52,8 +52,8 @@ fn add_site(rest: &mut Rest, couplings: &Couplings, j: usize, times: i64) {
 /// What all sites may add.
 fn whole_rest(couplings: &Couplings) -> Rest {
     let mut rest = Rest {
-        least: Row::zero(),
-        greatest: Row::zero(),
+        least: SiteNumbers::zero(),
+        greatest: SiteNumbers::zero(),
         may: positive_sites(couplings),
     };
     for j in 0..couplings.sites {
@@ -115,7 +115,7 @@ fn bound_of(couplings: &Couplings, guess: &Guess, depth: usize, rest: &Rest) -> 
 }
 
 /// The place of the branch with the highest bound.
-fn worst(branches: &[Branch]) -> usize {
+fn worst(branches: &[GuessedPrefix]) -> usize {
     let mut place = 0;
     let mut highest = i64::MIN;
     for (k, branch) in branches.iter().enumerate() {
@@ -128,7 +128,7 @@ fn worst(branches: &[Branch]) -> usize {
 }
 
 /// Adds a branch, in place of the worst where there are enough.
-fn keep(branches: &mut Vec<Branch>, branch: Branch) -> Result<(), Memory> {
+fn keep(branches: &mut Vec<GuessedPrefix>, branch: GuessedPrefix) -> Result<(), Memory> {
     if branches.len() < WIDTH {
         branches.push(branch)?;
         return Ok(());
@@ -149,17 +149,17 @@ fn keep(branches: &mut Vec<Branch>, branch: Branch) -> Result<(), Memory> {
 fn widened(
     alloc: Global,
     couplings: &Couplings,
-    branches: &[Branch],
+    branches: &[GuessedPrefix],
     depth: usize,
     rest: &Rest,
-) -> Result<Vec<Branch>, Memory> {
+) -> Result<Vec<GuessedPrefix>, Memory> {
     let mut next = Vec::new(alloc);
     for branch in branches {
         for number in [-1, 0, 1] {
             let mut guess = branch.guess;
             guess.set(couplings, depth, number);
             if let Some(bound) = bound_of(couplings, &guess, depth.saturating_add(1), rest) {
-                keep(&mut next, Branch { guess, bound })?;
+                keep(&mut next, GuessedPrefix { guess, bound })?;
             }
         }
     }
@@ -170,7 +170,7 @@ fn widened(
 pub fn wide_guesses(alloc: Global, couplings: &Couplings) -> Result<Vec<Guess>, Memory> {
     let mut rest = whole_rest(couplings);
     let mut branches = Vec::new(alloc);
-    branches.push(Branch {
+    branches.push(GuessedPrefix {
         guess: Guess::neutral(couplings),
         bound: 0,
     })?;

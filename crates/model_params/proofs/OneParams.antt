@@ -2,10 +2,10 @@
 use Rattle.std.proofs.Common.{◌≡◌, ap, subst, ℕ, ℤ}
 use Rattle.std.proofs.Props.{props}
 use Rattle.model_params.specs.declared.params.Params.{Params}
-use Rattle.model_params.specs.Params.{AreInRange}
+use Rattle.model_params.specs.Params.{AreParamsInRange}
 
 -- there is one proof that they are in range
-one_range : (coulomb eps lam depth gap : ℤ) (base : ℕ) (a b : AreInRange coulomb eps lam depth gap base) → a ≡ b
+one_range : (coulomb eps lam depth gap : ℤ) (base : ℕ) (a b : AreParamsInRange coulomb eps lam depth gap base) → a ≡ b
 one_range coulomb eps lam depth gap base = hlevel props
 
 -- the numbers of parameters
@@ -21,7 +21,7 @@ abbrev numbers_of : Params → Numbers
 numbers_of p = record { coulomb = p.coulomb; eps = p.eps; lam = p.lam; depth = p.depth; gap = p.gap; base = p.base }
 
 abbrev AreWithin : Numbers → Type 0
-AreWithin n = AreInRange n.coulomb n.eps n.lam n.depth n.gap n.base
+AreWithin n = AreParamsInRange n.coulomb n.eps n.lam n.depth n.gap n.base
 
 abbrev params_from : (n : Numbers) → AreWithin n → Params
 params_from n within = record { coulomb = n.coulomb; eps = n.eps; lam = n.lam; depth = n.depth; gap = n.gap; base = n.base; in_range = within }

@@ -2,25 +2,25 @@
 use Rattle.std.proofs.Common.{pos, arith}
 use Rattle.std.proofs.lemmas.Int.{ints}
 use Rattle.model_params.specs.declared.params.Params.{Params}
-use Rattle.model_params.specs.Quantities.{IsWithin, coulomb_number, level_depth, level_gap, permittivity, screening_length}
-use Rattle.model_params.specs.Params.{AreInRange}
+use Rattle.model_params.specs.Quantities.{IsInRangeOf, coulomb_number, level_depth, level_gap, permittivity, screening_length}
+use Rattle.model_params.specs.Params.{AreParamsInRange}
 
-preset_coulomb : IsWithin coulomb_number (pos 14399645)
+preset_coulomb : IsInRangeOf coulomb_number (pos 14399645)
 preset_coulomb = record { from = omega (arith, ints); to = omega (arith, ints) }
 
-preset_permittivity : IsWithin permittivity (pos 56000)
+preset_permittivity : IsInRangeOf permittivity (pos 56000)
 preset_permittivity = record { from = omega (arith, ints); to = omega (arith, ints) }
 
-preset_length : IsWithin screening_length (pos 50000)
+preset_length : IsInRangeOf screening_length (pos 50000)
 preset_length = record { from = omega (arith, ints); to = omega (arith, ints) }
 
-preset_depth : IsWithin level_depth (pos 320000000000)
+preset_depth : IsInRangeOf level_depth (pos 320000000000)
 preset_depth = record { from = omega (arith, ints); to = omega (arith, ints) }
 
-preset_gap : IsWithin level_gap (pos 590000000000)
+preset_gap : IsInRangeOf level_gap (pos 590000000000)
 preset_gap = record { from = omega (arith, ints); to = omega (arith, ints) }
 
-pub preset_in_range : AreInRange (pos 14399645) (pos 56000) (pos 50000) (pos 320000000000) (pos 590000000000) 3
+pub preset_in_range : AreParamsInRange (pos 14399645) (pos 56000) (pos 50000) (pos 320000000000) (pos 590000000000) 3
 preset_in_range = record {
   coulomb_within = preset_coulomb;
   eps_within = preset_permittivity;

@@ -3,7 +3,7 @@ use Rattle.std.specs.Prelude.{ℤ, pos, ◌≤ℤ◌}
 use Rattle.model_params.specs.declared.quantity.Quantity.{Quantity}
 
 -- the number is in the range of the quantity
-pub record IsWithin (q : Quantity) (v : ℤ) : Type 0 where
+pub record IsInRangeOf (q : Quantity) (v : ℤ) : Type 0 where
   pub from : q.least ≤ℤ v
   pub to : v ≤ℤ q.greatest
 

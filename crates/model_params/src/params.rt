@@ -1,5 +1,5 @@
 ghost use Rattle.std.specs.Prelude.{◌≡◌, ◌↔◌, IsSome, IfSome};
-ghost use Rattle.model_params.specs.Params.{AreInRange};
+ghost use Rattle.model_params.specs.Params.{AreParamsInRange};
 
 use crate::{COULOMB_NUMBER, LEVEL_DEPTH, LEVEL_GAP, PERMITTIVITY, SCREENING_LENGTH};
 
@@ -18,7 +18,7 @@ pub struct Params {
     pub gap: i64,
     /// How many charges a site may have: 2 or 3.
     pub base: u64,
-    ghost in_range: { AreInRange coulomb eps lam depth gap base },
+    ghost in_range: { AreParamsInRange coulomb eps lam depth gap base },
 }
 
 /// The parameters, or `None` where one is out of its range.
@@ -30,7 +30,7 @@ pub fn params_of(
     gap: i64,
     base: u64,
 ) -> Option<Params>
-    ensures some { IsSome result ↔ AreInRange coulomb eps lam depth gap base }
+    ensures some { IsSome result ↔ AreParamsInRange coulomb eps lam depth gap base }
     ensures potentials { IfSome result (λ p.
         (p.coulomb ≡ coulomb) × (p.eps ≡ eps) × (p.lam ≡ lam)) }
     ensures levels { IfSome result (λ p. (p.depth ≡ depth) × (p.gap ≡ gap) × (p.base ≡ base)) }

@@ -1,5 +1,5 @@
 ghost use Rattle.std.specs.Prelude.{◌↔◌, IsTrue};
-ghost use Rattle.model_params.specs.Quantities.{IsWithin};
+ghost use Rattle.model_params.specs.Quantities.{IsInRangeOf};
 
 /// A number that a run may set: a decimal with at most `places` digits after its point, in units of
 /// 10^-places, from `least` to `greatest`. Where it is not set it is `preset`.
@@ -53,7 +53,7 @@ pub const LEVEL_GAP: Quantity = Quantity {
 impl Quantity {
     /// Whether the number is in the range.
     pub fn holds(&self, number: i64) -> bool
-        ensures { IsTrue result ↔ IsWithin self.now number }
+        ensures { IsTrue result ↔ IsInRangeOf self.now number }
     {
         self.least <= number && number <= self.greatest
     }

@@ -8,7 +8,7 @@ use Rattle.charge_model.specs.Problem.{Problem, Table, IsProblem, IsLeast, IsGre
 use Rattle.charge_model.specs.Rules.{energy}
 use Rattle.occupation.specs.declared.share.Share.{Share}
 use Rattle.occupation.specs.Rounding.{rounded_share}
-use Rattle.occupation.specs.Shares.{AreGaps, AreRoundedShares, IsGapSpan, IsRoundedShare}
+use Rattle.occupation.specs.Shares.{AreGaps, AreRoundedShares, IsEnergyGapSpan, IsRoundedShare}
 use Rattle.occupation.proofs.LawLemmas.{equal_shares}
 
 same_list : (p : Problem) (kt : ℕ) (l es : List (List Charge)) (ss rs : List Share) → AllZip (IsRoundedShare p kt l) es ss → AllZip (IsRoundedShare p kt l) es rs → ss ≡ rs
@@ -35,7 +35,7 @@ in_order p q lo hi least greatest =
     omega (arith, ints, bound, at.2.1)
 
 module _ (have : HaveExtremes) (p : Problem) (valid : IsProblem p) where
-  pub gap_between : (c e : List Charge) → (s : Span) × IsGapSpan p c e s
+  pub gap_between : (c e : List Charge) → (s : Span) × IsEnergyGapSpan p c e s
   gap_between c e =
       let least = have.least p c e valid in
       let greatest = have.greatest p c e valid in

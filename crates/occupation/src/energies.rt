@@ -2,8 +2,8 @@ ghost use Rattle.std.specs.Prelude.{◌≡◌, ◌↔◌, ◌-ℤ◌, IsTrue, If
 ghost use Rattle.charge_model.specs.Rules.{IsChargeList};
 ghost use Rattle.charge_model.specs.GroundList.{lists_of};
 ghost use Rattle.linear_form.specs.Forms.{IsSmallSpan};
-ghost use Rattle.occupation.specs.Energies.{IsEnergyOf, IsEnergyOfList, charges_of};
-ghost use Rattle.occupation.specs.Shares.{IsGapSpan};
+ghost use Rattle.occupation.specs.Energies.{IsEnergyOf, IsEnergyOfList, lists_of_energies};
+ghost use Rattle.occupation.specs.Shares.{IsEnergyGapSpan};
 
 use charge_state::Charges;
 use fixed_enclosure::{Span, span_between};
@@ -46,7 +46,7 @@ pub(crate) fn energies_of(
 ) -> Result<Vec<EntryEnergy>, Memory>
     requires { All (IsChargeList problem.now) (lists_of list.now) }
     ensures energies { IfOk result (λ v. All (IsEnergyOf problem.now) v.items) }
-    ensures charges { IfOk result (λ v. charges_of v.items ≡ lists_of list.now) }
+    ensures charges { IfOk result (λ v. lists_of_energies v.items ≡ lists_of list.now) }
 {
     let mut energies = Vec::new(alloc);
     for j in 0..list.len() {
@@ -84,7 +84,7 @@ pub(crate) fn gap_span(
 ) -> Result<Span, Memory>
     requires list { IsEnergyOf problem.now list.now }
     requires other { IsEnergyOf problem.now other.now }
-    ensures { IfOk result (IsGapSpan problem.now list.now.charges other.now.charges) }
+    ensures { IfOk result (IsEnergyGapSpan problem.now list.now.charges other.now.charges) }
 {
     same_least_values();
     same_greatest_values();

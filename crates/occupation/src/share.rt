@@ -4,7 +4,7 @@ ghost use Rattle.charge_model.specs.GroundList.{lists_of};
 ghost use Rattle.std.specs.List.{AllZip};
 ghost use Rattle.occupation.specs.Rounding.{share_lo};
 ghost use Rattle.occupation.specs.Sums.{AreFromOne, FromOne, IsShareBy};
-ghost use Rattle.occupation.specs.Shares.{AreRoundedShares, EncloseShares, IsPart};
+ghost use Rattle.occupation.specs.Shares.{AreRoundedShares, EncloseShares, IsPartOfWhole};
 
 use crate::energies::energies_of;
 use crate::laws::{rounded_shares_are_parts, rounded_shares_enclose_the_intervals};
@@ -74,7 +74,7 @@ pub fn occupation(
         AreRoundedShares problem.now (unsigned_abs kt) (lists_of list.now) shares.items) }
     ensures encloses { IfOk result (λ shares.
         EncloseShares problem.now (unsigned_abs kt) (lists_of list.now) shares.items) }
-    ensures parts { IfOk result (λ shares. All IsPart shares.items) }
+    ensures parts { IfOk result (λ shares. All IsPartOfWhole shares.items) }
 {
     rounded_shares_enclose_the_intervals();
     rounded_shares_are_parts();

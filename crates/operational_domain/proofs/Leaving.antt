@@ -12,7 +12,7 @@ use Rattle.sidb_layout.specs.Dropping.{sites_but}
 use Rattle.sidb_layout.proofs.Kept.{kept_layout}
 use Rattle.gate_model.specs.declared.pairs.PairOf.{PairOf}
 use Rattle.gate_model.specs.Logic.{Logic, IsLogic}
-use Rattle.bdl_pairs.specs.Remaining.{AreMoved, IsKept, IsKeptPair, IsLeft, IsMovedPair, IsMovedTo, IsOn, Remaining, emptied_by, sites_under}
+use Rattle.bdl_pairs.specs.Remaining.{AreMoved, IsKeptSite, IsKeptPair, IsLeft, IsMovedPair, IsMovedTo, IsOn, Remaining, emptied_by, sites_under}
 use Rattle.bdl_pairs.proofs.Emptied.{all_kept}
 
 -- no place stands before itself
@@ -72,7 +72,7 @@ OthersStay = (gone : List ℕ) (sites : List Site) (s : Site) → Contains (site
     ↔ ((k : ℕ) × (k < length sites) × (¬ Contains gone k) × (place_at sites k ≡ s))
 
 -- a site that stays has a new place, and pairs of such sites have new pairs
-some_place : (old new : List Site) (x : ℕ) → IsKept old new x → (y : ℕ) × IsMovedTo old new x y
+some_place : (old new : List Site) (x : ℕ) → IsKeptSite old new x → (y : ℕ) × IsMovedTo old new x y
 some_place old new x kept =
     let at = kept.stays in
     (at.0, record { within = at.1; same = get_or_default new at.0 origin (place_at old x) at.1 ∙ at.2 })

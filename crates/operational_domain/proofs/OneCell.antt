@@ -3,7 +3,7 @@ use Rattle.std.proofs.Common.{◌≡◌, ◌∙◌, sym, ap, refl, subst, ℕ, �
 use Rattle.std.proofs.Props.{props}
 use Rattle.std.proofs.lemmas.Bool.{cases_lt}
 use Rattle.sidb_layout.specs.Layout.{IsLayout}
-use Rattle.model_params.specs.Params.{AreInRange}
+use Rattle.model_params.specs.Params.{AreParamsInRange}
 use Rattle.model_params.specs.declared.params.Params.{Params}
 use Rattle.gate_model.specs.Logic.{pattern_count}
 use Rattle.gate_model.specs.Grids.{Axes}
@@ -22,34 +22,34 @@ use Rattle.operational_domain.proofs.ListsInOrder.{same_lists}
 use Rattle.operational_domain.proofs.OnePattern.{PartsAreOne, not_long, not_over, over_or_long, same_answer}
 
 -- the parameters of these numbers
-abbrev of_numbers : (c e l d g : ℤ) (b : ℕ) → AreInRange c e l d g b → Params
+abbrev of_numbers : (c e l d g : ℤ) (b : ℕ) → AreParamsInRange c e l d g b → Params
 of_numbers c e l d g b within = record { coulomb = c; eps = e; lam = l; depth = d; gap = g; base = b; in_range = within }
 
-one_range : (c e l d g : ℤ) (b : ℕ) (x y : AreInRange c e l d g b) → x ≡ y
+one_range : (c e l d g : ℤ) (b : ℕ) (x y : AreParamsInRange c e l d g b) → x ≡ y
 one_range c e l d g b = hlevel props
 
 -- parameters of the same numbers are the same
 same_params : (p q : Params) → p.coulomb ≡ q.coulomb → p.eps ≡ q.eps → p.lam ≡ q.lam → p.depth ≡ q.depth → p.gap ≡ q.gap → p.base ≡ q.base → p ≡ q
 same_params p q ec ee el ed eg eb = coulomb q.coulomb ec q.eps ee q.lam el q.depth ed q.gap eg q.base eb q.in_range
   where
-    base : (b : ℕ) → p.base ≡ b → (r : AreInRange p.coulomb p.eps p.lam p.depth p.gap b) → p ≡ of_numbers p.coulomb p.eps p.lam p.depth p.gap b r
-    base b e = subst (λ b. (r : AreInRange p.coulomb p.eps p.lam p.depth p.gap b) → p ≡ of_numbers p.coulomb p.eps p.lam p.depth p.gap b r) e
+    base : (b : ℕ) → p.base ≡ b → (r : AreParamsInRange p.coulomb p.eps p.lam p.depth p.gap b) → p ≡ of_numbers p.coulomb p.eps p.lam p.depth p.gap b r
+    base b e = subst (λ b. (r : AreParamsInRange p.coulomb p.eps p.lam p.depth p.gap b) → p ≡ of_numbers p.coulomb p.eps p.lam p.depth p.gap b r) e
         (λ r. ap (of_numbers p.coulomb p.eps p.lam p.depth p.gap p.base) (one_range p.coulomb p.eps p.lam p.depth p.gap p.base p.in_range r))
 
-    gap : (g : ℤ) → p.gap ≡ g → (b : ℕ) → p.base ≡ b → (r : AreInRange p.coulomb p.eps p.lam p.depth g b) → p ≡ of_numbers p.coulomb p.eps p.lam p.depth g b r
-    gap g e = subst (λ g. (b : ℕ) → p.base ≡ b → (r : AreInRange p.coulomb p.eps p.lam p.depth g b) → p ≡ of_numbers p.coulomb p.eps p.lam p.depth g b r) e base
+    gap : (g : ℤ) → p.gap ≡ g → (b : ℕ) → p.base ≡ b → (r : AreParamsInRange p.coulomb p.eps p.lam p.depth g b) → p ≡ of_numbers p.coulomb p.eps p.lam p.depth g b r
+    gap g e = subst (λ g. (b : ℕ) → p.base ≡ b → (r : AreParamsInRange p.coulomb p.eps p.lam p.depth g b) → p ≡ of_numbers p.coulomb p.eps p.lam p.depth g b r) e base
 
-    depth : (d : ℤ) → p.depth ≡ d → (g : ℤ) → p.gap ≡ g → (b : ℕ) → p.base ≡ b → (r : AreInRange p.coulomb p.eps p.lam d g b) → p ≡ of_numbers p.coulomb p.eps p.lam d g b r
-    depth d e = subst (λ d. (g : ℤ) → p.gap ≡ g → (b : ℕ) → p.base ≡ b → (r : AreInRange p.coulomb p.eps p.lam d g b) → p ≡ of_numbers p.coulomb p.eps p.lam d g b r) e gap
+    depth : (d : ℤ) → p.depth ≡ d → (g : ℤ) → p.gap ≡ g → (b : ℕ) → p.base ≡ b → (r : AreParamsInRange p.coulomb p.eps p.lam d g b) → p ≡ of_numbers p.coulomb p.eps p.lam d g b r
+    depth d e = subst (λ d. (g : ℤ) → p.gap ≡ g → (b : ℕ) → p.base ≡ b → (r : AreParamsInRange p.coulomb p.eps p.lam d g b) → p ≡ of_numbers p.coulomb p.eps p.lam d g b r) e gap
 
-    lam : (l : ℤ) → p.lam ≡ l → (d : ℤ) → p.depth ≡ d → (g : ℤ) → p.gap ≡ g → (b : ℕ) → p.base ≡ b → (r : AreInRange p.coulomb p.eps l d g b) → p ≡ of_numbers p.coulomb p.eps l d g b r
-    lam l e = subst (λ l. (d : ℤ) → p.depth ≡ d → (g : ℤ) → p.gap ≡ g → (b : ℕ) → p.base ≡ b → (r : AreInRange p.coulomb p.eps l d g b) → p ≡ of_numbers p.coulomb p.eps l d g b r) e depth
+    lam : (l : ℤ) → p.lam ≡ l → (d : ℤ) → p.depth ≡ d → (g : ℤ) → p.gap ≡ g → (b : ℕ) → p.base ≡ b → (r : AreParamsInRange p.coulomb p.eps l d g b) → p ≡ of_numbers p.coulomb p.eps l d g b r
+    lam l e = subst (λ l. (d : ℤ) → p.depth ≡ d → (g : ℤ) → p.gap ≡ g → (b : ℕ) → p.base ≡ b → (r : AreParamsInRange p.coulomb p.eps l d g b) → p ≡ of_numbers p.coulomb p.eps l d g b r) e depth
 
-    eps : (n : ℤ) → p.eps ≡ n → (l : ℤ) → p.lam ≡ l → (d : ℤ) → p.depth ≡ d → (g : ℤ) → p.gap ≡ g → (b : ℕ) → p.base ≡ b → (r : AreInRange p.coulomb n l d g b) → p ≡ of_numbers p.coulomb n l d g b r
-    eps n e = subst (λ n. (l : ℤ) → p.lam ≡ l → (d : ℤ) → p.depth ≡ d → (g : ℤ) → p.gap ≡ g → (b : ℕ) → p.base ≡ b → (r : AreInRange p.coulomb n l d g b) → p ≡ of_numbers p.coulomb n l d g b r) e lam
+    eps : (n : ℤ) → p.eps ≡ n → (l : ℤ) → p.lam ≡ l → (d : ℤ) → p.depth ≡ d → (g : ℤ) → p.gap ≡ g → (b : ℕ) → p.base ≡ b → (r : AreParamsInRange p.coulomb n l d g b) → p ≡ of_numbers p.coulomb n l d g b r
+    eps n e = subst (λ n. (l : ℤ) → p.lam ≡ l → (d : ℤ) → p.depth ≡ d → (g : ℤ) → p.gap ≡ g → (b : ℕ) → p.base ≡ b → (r : AreParamsInRange p.coulomb n l d g b) → p ≡ of_numbers p.coulomb n l d g b r) e lam
 
-    coulomb : (c : ℤ) → p.coulomb ≡ c → (n : ℤ) → p.eps ≡ n → (l : ℤ) → p.lam ≡ l → (d : ℤ) → p.depth ≡ d → (g : ℤ) → p.gap ≡ g → (b : ℕ) → p.base ≡ b → (r : AreInRange c n l d g b) → p ≡ of_numbers c n l d g b r
-    coulomb c e = subst (λ c. (n : ℤ) → p.eps ≡ n → (l : ℤ) → p.lam ≡ l → (d : ℤ) → p.depth ≡ d → (g : ℤ) → p.gap ≡ g → (b : ℕ) → p.base ≡ b → (r : AreInRange c n l d g b) → p ≡ of_numbers c n l d g b r) e eps
+    coulomb : (c : ℤ) → p.coulomb ≡ c → (n : ℤ) → p.eps ≡ n → (l : ℤ) → p.lam ≡ l → (d : ℤ) → p.depth ≡ d → (g : ℤ) → p.gap ≡ g → (b : ℕ) → p.base ≡ b → (r : AreParamsInRange c n l d g b) → p ≡ of_numbers c n l d g b r
+    coulomb c e = subst (λ c. (n : ℤ) → p.eps ≡ n → (l : ℤ) → p.lam ≡ l → (d : ℤ) → p.depth ≡ d → (g : ℤ) → p.gap ≡ g → (b : ℕ) → p.base ≡ b → (r : AreParamsInRange c n l d g b) → p ≡ of_numbers c n l d g b r) e eps
 
 pub same_point : (p : Params) (a : Axes) (k : ℕ) (x y : Params) → IsPoint p a k x → IsPoint p a k y → x ≡ y
 same_point p a k x y h g =

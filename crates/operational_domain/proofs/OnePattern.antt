@@ -7,7 +7,7 @@ use Rattle.charge_model.specs.GroundList.{Entry}
 use Rattle.sidb_layout.specs.Layout.{Arrangement, IsLayout}
 use Rattle.model_params.specs.declared.params.Params.{Params}
 use Rattle.screened_coulomb.specs.Layouts.{IsProblemOf}
-use Rattle.ground_state.specs.Answer.{IsListedWithin, IsOverBudget, IsTooLongWithin, IsWithinBudget}
+use Rattle.ground_state.specs.Answer.{IsListedWithin, IsOverLimit, IsTooLongWithin, IsWithinLimit}
 use Rattle.gate_model.specs.declared.pairs.PairOf.{PairOf}
 use Rattle.gate_model.specs.Logic.{pattern_count}
 use Rattle.bdl_pairs.specs.declared.truth.PatternAnswer.{PatternAnswer}
@@ -24,7 +24,7 @@ pub record PartsAreOne : Type 0 where
   pub problem : (layout : Arrangement) (p : Params) (a b : Problem) → IsProblemOf layout p a → IsProblemOf layout p b → a ≡ b
   pub list : (p : Problem) (limit : ℕ) (es fs : List Entry) → IsListedWithin p limit es → IsListedWithin p limit fs → es ≡ fs
   pub length : (p : Problem) (limit : ℕ) (es : List Entry) → IsListedWithin p limit es → IsTooLongWithin p limit → ⊥
-  pub budget : (p : Problem) (limit : ℕ) → IsWithinBudget p limit → IsOverBudget p limit → ⊥
+  pub budget : (p : Problem) (limit : ℕ) → IsWithinLimit p limit → IsOverLimit p limit → ⊥
   pub verdict : (outputs : List PairOf) (wanted : Bool) (es : List Entry) (v w : PatternVerdict) → IsVerdict outputs wanted es v → IsVerdict outputs wanted es w → v ≡ w
 
 -- these parts together
@@ -52,7 +52,7 @@ module _ (one : PartsAreOne) (s : Setting) (valid : IsLayout s.whole) where
   pub not_over : (k : ℕ) (x : PatternAnswer) → IsPatternAnswer s k x → IsPatternOver s k → ⊥
   not_over k x a b =
       let same = same_problem k a.left b.left a.problem b.problem a.of_pattern b.of_pattern in
-      one.budget b.problem s.limit (subst (λ p. IsWithinBudget p s.limit) same.1 a.listed.budget) b.over
+      one.budget b.problem s.limit (subst (λ p. IsWithinLimit p s.limit) same.1 a.listed.budget) b.over
 
   pub not_long : (k : ℕ) (x : PatternAnswer) → IsPatternAnswer s k x → IsPatternLong s k → ⊥
   not_long k x a b =
@@ -62,7 +62,7 @@ module _ (one : PartsAreOne) (s : Setting) (valid : IsLayout s.whole) where
   pub over_or_long : (k : ℕ) → IsPatternOver s k → IsPatternLong s k → ⊥
   over_or_long k a b =
       let same = same_problem k a.left b.left a.problem b.problem a.of_pattern b.of_pattern in
-      one.budget b.problem s.limit b.long.budget (subst (λ p. IsOverBudget p s.limit) same.1 a.over)
+      one.budget b.problem s.limit b.long.budget (subst (λ p. IsOverLimit p s.limit) same.1 a.over)
 
   pub same_table : (n : ℕ) (xs ys : List PatternAnswer) → AreAnswers s n xs → AreAnswers s n ys → xs ≡ ys
   same_table n xs ys a b = same_lists (IsPatternAnswer s) same_answer n xs ys a.count b.count a.each b.each

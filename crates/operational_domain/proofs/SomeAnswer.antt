@@ -9,10 +9,10 @@ use Rattle.sidb_units.specs.declared.TheConstants.{MAX_ENTRIES}
 use Rattle.charge_model.specs.Problem.{Problem, IsProblem}
 use Rattle.charge_model.specs.GroundList.{Entry, IsMarkedGroundList, lists_of}
 use Rattle.sidb_layout.specs.Layout.{Arrangement, IsLayout}
-use Rattle.model_params.specs.Params.{AreInRange}
+use Rattle.model_params.specs.Params.{AreParamsInRange}
 use Rattle.model_params.specs.declared.params.Params.{Params}
 use Rattle.screened_coulomb.specs.Layouts.{HoldsDistances, IsProblemOf}
-use Rattle.ground_state.specs.Answer.{IsOverBudget, IsWithinBudget}
+use Rattle.ground_state.specs.Answer.{IsOverLimit, IsWithinLimit}
 use Rattle.gate_model.specs.declared.pairs.PairOf.{PairOf}
 use Rattle.gate_model.specs.Logic.{IsLogic, pattern_count}
 use Rattle.gate_model.specs.Grids.{AreAxes, Axes, point_at}
@@ -38,7 +38,7 @@ use Rattle.operational_domain.proofs.ListsInOrder.{some_list}
 pub record PartsAreThere : Type 0 where
   pub stay : OthersStay
   pub problem : (layout : Arrangement) (p : Params) → IsLayout layout → (q : Problem) × IsProblemOf layout p q × HoldsDistances layout p q × IsProblem q
-  pub decided : (p : Problem) (limit : ℕ) → IsProblem p → IsWithinBudget p limit ⊎ IsOverBudget p limit
+  pub decided : (p : Problem) (limit : ℕ) → IsProblem p → IsWithinLimit p limit ⊎ IsOverLimit p limit
   pub list : (p : Problem) → IsProblem p → (es : List Entry) × IsMarkedGroundList p es
   pub verdict : (outputs : List PairOf) (wanted : Bool) (es : List Entry) → (v : PatternVerdict) × IsVerdict outputs wanted es v
 
@@ -60,7 +60,7 @@ module _ (parts : PartsAreThere) (s : Setting) (valid : IsLayout s.whole) (logic
           with : ((q : Problem) × IsProblemOf left.layout s.params q × HoldsDistances left.layout s.params q × IsProblem q) → HasAnswer s k
           with (q, of_layout, holds, is_problem) = by (parts.decided q s.limit is_problem)
             where
-              listed : IsWithinBudget q s.limit → ((es : List Entry) × IsMarkedGroundList q es) → HasAnswer s k
+              listed : IsWithinLimit q s.limit → ((es : List Entry) × IsMarkedGroundList q es) → HasAnswer s k
               listed budget (es, marked) = count (cases_lt MAX_ENTRIES (length es))
                 where
                   count : (MAX_ENTRIES < length es) ⊎ (length es ≤ MAX_ENTRIES) → HasAnswer s k
@@ -86,7 +86,7 @@ module _ (parts : PartsAreThere) (s : Setting) (valid : IsLayout s.whole) (logic
                         },
                       )
 
-              by : IsWithinBudget q s.limit ⊎ IsOverBudget q s.limit → HasAnswer s k
+              by : IsWithinLimit q s.limit ⊎ IsOverLimit q s.limit → HasAnswer s k
               by (inl within) = listed within (parts.list q is_problem)
               by (inr over) = inr (inl (record { left = left; problem = q; of_pattern = record { left_by = is_left; problem_of = of_layout }; over = over }))
 

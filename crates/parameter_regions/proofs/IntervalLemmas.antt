@@ -1,9 +1,9 @@
 -- the interval of a point against the ends at two corners
 use Rattle.std.proofs.Common.{ℕ, suc, ◌+◌, ◌*◌, ◌^◌, ◌<◌, ◌≤◌, nat_lt, if◌then◌else◌, arith}
 use Rattle.std.proofs.Math.Nat.{mul-le-mul, mul-le-mul_left, mul-le-mul_right}
-use Rattle.root_exp.specs.Series.{closed_divisor, closed_sum, divisor_of, series_sum}
+use Rattle.root_exp.specs.Series.{closed_divisor, closed_sum, divisor_of, series_sum, Fraction}
 use Rattle.model_params.specs.declared.params.Params.{Params}
-use Rattle.screened_coulomb.specs.Potential.{Fraction, bottom_of, closed_low, coulomb_of, eps_of, high_at_order, lam_of, low_at_order, top_of}
+use Rattle.screened_coulomb.specs.Potential.{bottom_of, closed_low, coulomb_of, eps_of, high_at_order, lam_of, low_at_order, top_of}
 use Rattle.parameter_regions.specs.Points.{IsNoMore, Point, closed_low_at, high_at, low_at, top_at}
 use Rattle.parameter_regions.proofs.ArgumentLemmas.{closed_sums_rise, sums_rise}
 

@@ -3,12 +3,12 @@ use Rattle.std.proofs.Common.{◌≡◌, ℕ, zero, suc, ◌+◌, ◌*◌, ◌^�
 use Rattle.std.proofs.lemmas.Int.{ints}
 use Rattle.std.proofs.Math.Nat.{mul-le-mul, mul-le-mul_left, mul-le-mul_right, le_of_mul-le-mul_left, one-le-pow}
 use Rattle.root_exp.specs.Root.{IsRoot}
-use Rattle.root_exp.specs.Series.{closed_divisor, closed_sum, divisor_of, rest_of, series_sum}
+use Rattle.root_exp.specs.Series.{closed_divisor, closed_sum, divisor_of, rest_of, series_sum, Fraction}
 use Rattle.model_params.specs.declared.params.Params.{Params}
-use Rattle.screened_coulomb.specs.Potential.{Fraction, HoldsDistance, IsAtLeast, IsAtMost, bottom_of, closed_low, coulomb_of, eps_of, high_at_order, lam_of, low_at_order, top_of}
+use Rattle.screened_coulomb.specs.Potential.{HoldsDistance, IsAtLeast, IsAtMost, bottom_of, closed_low, coulomb_of, eps_of, high_at_order, lam_of, low_at_order, top_of}
 use Rattle.parameter_regions.specs.declared.rectangles.Rectangle.{Rectangle}
 use Rattle.parameter_regions.specs.Points.{IsNoMore, IsPotentialAt, Point, closed_low_at, high_at, low_at, scaled, top_at}
-use Rattle.parameter_regions.specs.Rectangles.{IsIn}
+use Rattle.parameter_regions.specs.Rectangles.{IsInRectangle}
 use Rattle.parameter_regions.proofs.ArgumentLemmas.{sums_rise}
 use Rattle.parameter_regions.proofs.IntervalLemmas.{high_within, low_within}
 
@@ -64,12 +64,12 @@ corner_high_bottom p k a some =
     product_some (eps_of p * a) (series_sum (top_of a) (bottom_of (lam_of p) k) k) (product_some (eps_of p) a eps some) (series_some (top_of a) (bottom_of (lam_of p) k) k (scaled_screening k (lam_of p) lam))
 
 -- the permittivity and the screening length of a point of a rectangle are not 0
-pub eps_some : (r : Rectangle) (point : Point) → IsIn r point → 0 < point.eps
+pub eps_some : (r : Rectangle) (point : Point) → IsInRectangle r point → 0 < point.eps
 eps_some r point inside =
     let least : 0 < eps_of r.strongest = omega (arith, ints, r.strongest.in_range.eps_within.from) in
     omega (arith, product_some (eps_of r.strongest) point.parts least inside.some, inside.eps_from)
 
-pub lam_some : (r : Rectangle) (point : Point) → IsIn r point → 0 < point.lam
+pub lam_some : (r : Rectangle) (point : Point) → IsInRectangle r point → 0 < point.lam
 lam_some r point inside =
     let least : 0 < lam_of r.weakest = omega (arith, ints, r.weakest.in_range.lam_within.from) in
     omega (arith, product_some (lam_of r.weakest) point.parts least inside.some, inside.lam_from)
@@ -152,7 +152,7 @@ number_below x s (pos z) f g some also high le number =
 number_below x s (negsuc z) f g some also high le number = omega (arith, ints)
 
 -- a potential at a point of a rectangle is at least a lower end that holds the distance at the weakest corner
-pub potential_above : (r : Rectangle) (point : Point) (d x hi scale : ℕ) (z : ℤ) → IsIn r point → HoldsDistance r.weakest d (pos x) (pos hi) → IsPotentialAt (coulomb_of r.weakest) point d scale z
+pub potential_above : (r : Rectangle) (point : Point) (d x hi scale : ℕ) (z : ℤ) → IsInRectangle r point → HoldsDistance r.weakest d (pos x) (pos hi) → IsPotentialAt (coulomb_of r.weakest) point d scale z
     → (pos scale *ℤ pos x) ≤ℤ z
 potential_above r point d x hi scale z inside holds number =
     let k = number.order in
@@ -162,13 +162,13 @@ potential_above r point d x hi scale z inside holds number =
     (holds k a number.enough number.of_root).low (low_within r.weakest point k a inside.some inside.eps_to inside.lam_from) number.lies.above
 
 -- the upper end at a point is at most that at the strongest corner
-pub high_at_corner : (r : Rectangle) (point : Point) (k a : ℕ) → IsIn r point → IsNoMore (high_at (coulomb_of r.weakest) point k a) (high_at_order r.strongest k a)
+pub high_at_corner : (r : Rectangle) (point : Point) (k a : ℕ) → IsInRectangle r point → IsNoMore (high_at (coulomb_of r.weakest) point k a) (high_at_order r.strongest k a)
 high_at_corner r point k a inside =
     let same : coulomb_of r.weakest ≡ coulomb_of r.strongest = ap (λ (z : ℤ). unsigned_abs z * 10 ^ 12) r.are_corners.coulomb in
     subst (λ (c : ℕ). IsNoMore (high_at c point k a) (high_at_order r.strongest k a)) (sym same) (high_within r.strongest point k a inside.eps_from inside.lam_to)
 
 -- and at most an upper end that holds it at the strongest one
-pub potential_below : (r : Rectangle) (point : Point) (d lo x scale : ℕ) (z : ℤ) → 0 < d → IsIn r point → HoldsDistance r.strongest d (pos lo) (pos x) → IsPotentialAt (coulomb_of r.weakest) point d scale z
+pub potential_below : (r : Rectangle) (point : Point) (d lo x scale : ℕ) (z : ℤ) → 0 < d → IsInRectangle r point → HoldsDistance r.strongest d (pos lo) (pos x) → IsPotentialAt (coulomb_of r.weakest) point d scale z
     → z ≤ℤ (pos scale *ℤ pos x)
 potential_below r point d lo x scale z some inside holds number =
     let k = number.order in

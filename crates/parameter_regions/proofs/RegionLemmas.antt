@@ -15,7 +15,7 @@ use Rattle.screened_coulomb.specs.Rounding.{IsRoundedSpan, rounded_ends}
 use Rattle.screened_coulomb.specs.Layouts.{IsClassSpan, IsProblemOf}
 use Rattle.parameter_regions.specs.declared.rectangles.Rectangle.{Rectangle}
 use Rattle.parameter_regions.specs.Points.{IsPotentialAt, Point}
-use Rattle.parameter_regions.specs.Rectangles.{IsIn}
+use Rattle.parameter_regions.specs.Rectangles.{IsInRectangle}
 use Rattle.parameter_regions.specs.Regions.{IsRegionProblemOf, IsTableAt}
 use Rattle.parameter_regions.proofs.PotentialLemmas.{potential_above, potential_below}
 
@@ -45,7 +45,7 @@ whole_holds laws p d lo hi apart is =
 
 -- a potential at a point of a rectangle is at least the lower end at the weakest corner, times the scale,
 -- and at most the upper one at the strongest
-module _ (laws : AreLaws) (r : Rectangle) (point : Point) (inside : IsIn r point) (d scale : ℕ) (z : ℤ) (apart : 50625 ≤ d) (number : IsPotentialAt (coulomb_of r.weakest) point d scale z) where
+module _ (laws : AreLaws) (r : Rectangle) (point : Point) (inside : IsInRectangle r point) (d scale : ℕ) (z : ℤ) (apart : 50625 ≤ d) (number : IsPotentialAt (coulomb_of r.weakest) point d scale z) where
   pub above_weakest : (lo hi : ℤ) → IsRoundedSpan r.weakest d lo hi → (pos scale *ℤ lo) ≤ℤ z
   above_weakest lo hi is =
       subst (λ (x : ℤ). (pos scale *ℤ x) ≤ℤ z) (sym is.lo_is)
@@ -139,7 +139,7 @@ module _ (laws : AreLaws) (layout : Arrangement) (r : Rectangle) (q : Problem) (
           let number = subst (λ (k : ℕ). IsPotentialAt coulomb point (near_distance layout i a) t.scale (t.potential k)) class (at.nears i a within also) in
           subst (λ (d : ℕ). IsPotentialAt coulomb point d t.scale (t.potential c)) (sym same) number
 
-  pub table_there : (point : Point) → IsIn r point → (t : Table) → IsTableAt layout (coulomb_of r.weakest) point q t → IsTable q t
+  pub table_there : (point : Point) → IsInRectangle r point → (t : Table) → IsTableAt layout (coulomb_of r.weakest) point q t → IsTable q t
   table_there point inside t at = record {
     positive = at.positive;
     above = λ c less. let here = subst (λ (n : ℕ). c < n) count less in

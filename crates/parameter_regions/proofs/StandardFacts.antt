@@ -6,7 +6,7 @@ use Rattle.model_params.specs.declared.params.Params.{Params}
 use Rattle.screened_coulomb.proofs.StandardFacts.{usual, with_lam}
 use Rattle.parameter_regions.specs.declared.rectangles.Rectangle.{Rectangle}
 use Rattle.parameter_regions.specs.Points.{IsPotentialAt, point_of}
-use Rattle.parameter_regions.specs.Rectangles.{IsIn}
+use Rattle.parameter_regions.specs.Rectangles.{IsInRectangle}
 
 -- from 4.9 to 5 nm at the permittivity 5.6
 abbrev pub less_screening : Params
@@ -20,13 +20,13 @@ narrow = record {
 }
 
 -- its borders are points of it, and so is a third of the way, which is no whole parameter
-first_border : IsIn narrow (record { parts = 1; eps = 56000; lam = 49000 })
+first_border : IsInRectangle narrow (record { parts = 1; eps = 56000; lam = 49000 })
 first_border = record { some = omega arith; eps_from = omega arith; eps_to = omega arith; lam_from = omega arith; lam_to = omega arith }
 
-last_border : IsIn narrow (point_of usual)
+last_border : IsInRectangle narrow (point_of usual)
 last_border = record { some = omega arith; eps_from = omega arith; eps_to = omega arith; lam_from = omega arith; lam_to = omega arith }
 
-between : IsIn narrow (record { parts = 3; eps = 3 * 56000; lam = 148000 })
+between : IsInRectangle narrow (record { parts = 3; eps = 3 * 56000; lam = 148000 })
 between = record { some = omega arith; eps_from = omega arith; eps_to = omega arith; lam_from = omega arith; lam_to = omega arith }
 
 -- neighbours along a row at the usual point: a potential to 21 places after the unit,

@@ -2,9 +2,9 @@
 use Rattle.std.specs.Prelude.{ℕ, suc, ◌+◌, ◌*◌, ◌^◌, ◌≤◌, ℤ, nat_lt, if◌then◌else◌}
 use Rattle.root_exp.specs.declared.TheConstants.{ORDER}
 use Rattle.root_exp.specs.Root.{IsRoot}
-use Rattle.root_exp.specs.Series.{closed_divisor, closed_sum, divisor_of, series_sum}
+use Rattle.root_exp.specs.Series.{closed_divisor, closed_sum, divisor_of, series_sum, Fraction}
 use Rattle.model_params.specs.declared.params.Params.{Params}
-use Rattle.screened_coulomb.specs.Potential.{Fraction, IsAtLeast, IsAtMost, bottom_of, eps_of, lam_of, top_of}
+use Rattle.screened_coulomb.specs.Potential.{IsAtLeast, IsAtMost, bottom_of, eps_of, lam_of, top_of}
 
 -- a relative permittivity of eps / parts, in 10^-4, with a screening length of lam / parts,
 -- in 10^-4 nm: any rational numbers

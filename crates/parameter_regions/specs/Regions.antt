@@ -7,7 +7,7 @@ use Rattle.screened_coulomb.specs.Potential.{coulomb_of}
 use Rattle.screened_coulomb.specs.Layouts.{IsProblemOf}
 use Rattle.parameter_regions.specs.declared.rectangles.Rectangle.{Rectangle}
 use Rattle.parameter_regions.specs.Points.{IsPotentialAt, Point}
-use Rattle.parameter_regions.specs.Rectangles.{IsIn}
+use Rattle.parameter_regions.specs.Rectangles.{IsInRectangle}
 
 -- the problem of a layout over a rectangle: that of the weakest corner,
 -- but for the upper end of each span, which is that of the strongest corner
@@ -42,4 +42,4 @@ UnderEveryTableAt layout r problem point P =
 -- something holds at every point of a rectangle, under every table of the potentials there
 abbrev pub AtEveryPoint : Arrangement → Rectangle → Problem → (Table → Type 0) → Type 0
 AtEveryPoint layout r problem P =
-    (point : Point) → IsIn r point → UnderEveryTableAt layout r problem point P
+    (point : Point) → IsInRectangle r point → UnderEveryTableAt layout r problem point P

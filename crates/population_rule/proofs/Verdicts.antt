@@ -13,7 +13,7 @@ use Rattle.charge_model.specs.Problem.{Problem, UnderEveryTable, UnderSomeTable,
 use Rattle.charge_model.specs.Rules.{IsTestOf, test_slack, at_site}
 use Rattle.population_rule.specs.declared.verdict.PopulationVerdict.{PopulationVerdict}
 use Rattle.population_rule.specs.declared.verdict.PopulationVerdict.TheVariants.{Always, Never, Depends}
-use Rattle.population_rule.specs.Verdict.{HoldAlways, HoldSometimes, OneNeverHolds, DependsOnTable, IsPopulationVerdict}
+use Rattle.population_rule.specs.Verdict.{HoldAlways, HoldSometimes, OneNeverHolds, TestsDependOnTable, IsPopulationVerdict}
 
 -- where each test holds under some table, none of them never holds
 not_never : (p : Problem) (cs : List Charge) (i : ℕ) → HoldSometimes p cs i → OneNeverHolds p cs i → ⊥
@@ -62,7 +62,7 @@ below_of c e = subst (λ z. IsTestOf z BelowMinus) (sym e) (inr refl)
 pub above_fails : (p : Problem) (cs : List Charge) (i : ℕ) (s : Span) → charge_at cs i ≡ Neutral
     → UnderSomeTable p (λ t. pos 0 ≤ℤ test_slack p cs i AbovePlus t) → UnderSomeTable p (λ t. pos 0 ≤ℤ test_slack p cs i BelowMinus t)
     → UnderSomeTable p (λ t. test_slack p cs i AbovePlus t <ℤ pos 0)
-    → IsLeast p (test_slack p cs i AbovePlus) s.lo → IsGreatest p (test_slack p cs i AbovePlus) s.hi → DependsOnTable p cs i AbovePlus s
+    → IsLeast p (test_slack p cs i AbovePlus) s.lo → IsGreatest p (test_slack p cs i AbovePlus) s.hi → TestsDependOnTable p cs i AbovePlus s
 above_fails p cs i s e above below fails least greatest = record {
   possible = at_neutral (λ k. UnderSomeTable p (λ t. pos 0 ≤ℤ test_slack p cs i k t)) _ e above below;
   first = record { of_charge = above_of _ e; fails = fails; earlier = none; least = least; greatest = greatest };
@@ -77,7 +77,7 @@ pub below_fails : (p : Problem) (cs : List Charge) (i : ℕ) (s : Span) → char
     → UnderEveryTable p (λ t. pos 0 ≤ℤ test_slack p cs i AbovePlus t)
     → UnderSomeTable p (λ t. pos 0 ≤ℤ test_slack p cs i AbovePlus t) → UnderSomeTable p (λ t. pos 0 ≤ℤ test_slack p cs i BelowMinus t)
     → UnderSomeTable p (λ t. test_slack p cs i BelowMinus t <ℤ pos 0)
-    → IsLeast p (test_slack p cs i BelowMinus) s.lo → IsGreatest p (test_slack p cs i BelowMinus) s.hi → DependsOnTable p cs i BelowMinus s
+    → IsLeast p (test_slack p cs i BelowMinus) s.lo → IsGreatest p (test_slack p cs i BelowMinus) s.hi → TestsDependOnTable p cs i BelowMinus s
 below_fails p cs i s e always above below fails least greatest = record {
   possible = at_neutral (λ k. UnderSomeTable p (λ t. pos 0 ≤ℤ test_slack p cs i k t)) _ e above below;
   first = record { of_charge = below_of _ e; fails = fails; earlier = before; least = least; greatest = greatest };

@@ -39,7 +39,7 @@ pub record IsFirstFailing (p : Problem) (cs : List Charge) (i : ℕ) (k : Test) 
   pub greatest : IsGreatest p (test_slack p cs i k) s.hi
 
 -- each test holds under some table, and one fails under another
-pub record DependsOnTable (p : Problem) (cs : List Charge) (i : ℕ) (k : Test) (s : Span)
+pub record TestsDependOnTable (p : Problem) (cs : List Charge) (i : ℕ) (k : Test) (s : Span)
     : Type 0 where
   pub possible : HoldSometimes p cs i
   pub first : IsFirstFailing p cs i k s
@@ -48,10 +48,10 @@ pub record DependsOnTable (p : Problem) (cs : List Charge) (i : ℕ) (k : Test) 
 abbrev pub IsPopulationVerdict : Problem → List Charge → ℕ → PopulationVerdict → Type 0
 IsPopulationVerdict p cs i Always = HoldAlways p cs i
 IsPopulationVerdict p cs i Never = OneNeverHolds p cs i
-IsPopulationVerdict p cs i (Depends k s) = DependsOnTable p cs i k s
+IsPopulationVerdict p cs i (Depends k s) = TestsDependOnTable p cs i k s
 
 -- the span of a verdict has small ends
-abbrev pub HasSmallSpan : PopulationVerdict → Type 0
-HasSmallSpan Always = Unit {0}
-HasSmallSpan Never = Unit {0}
-HasSmallSpan (Depends k s) = IsSmallSpan s
+abbrev pub HasSmallTestSpan : PopulationVerdict → Type 0
+HasSmallTestSpan Always = Unit {0}
+HasSmallTestSpan Never = Unit {0}
+HasSmallTestSpan (Depends k s) = IsSmallSpan s

@@ -5,7 +5,7 @@ ghost use Rattle.charge_model.specs.Charges.{charge_at};
 ghost use Rattle.charge_model.specs.Problem.{IsLeast, IsGreatest, IsProblem};
 ghost use Rattle.charge_model.specs.Rules.{IsChargeList, IsTestOf, test_slack};
 ghost use Rattle.linear_form.specs.Forms.{IsSmallSpan};
-ghost use Rattle.population_rule.specs.Verdict.{IsPopulationVerdict, HoldAlways, OneNeverHolds, HasSmallSpan};
+ghost use Rattle.population_rule.specs.Verdict.{IsPopulationVerdict, HoldAlways, OneNeverHolds, HasSmallTestSpan};
 
 use crate::verdict::PopulationVerdict;
 use charge_model::laws::problems_have_tables;
@@ -54,7 +54,7 @@ fn one_test(
     requires test { IsTestOf (charge_at charges.now i) test }
     requires only { (k : Test) → IsTestOf (charge_at charges.now i) k → k ≡ test }
     ensures verdict { IfOk result (IsPopulationVerdict problem.now charges.now i) }
-    ensures within { IfOk result HasSmallSpan }
+    ensures within { IfOk result HasSmallTestSpan }
 {
     least_values_decide();
     greatest_values_decide();
@@ -79,7 +79,7 @@ fn two_tests(
     requires site { i < problem.now.sites }
     requires neutral { charge_at charges.now i ≡ Charge.Neutral }
     ensures verdict { IfOk result (IsPopulationVerdict problem.now charges.now i) }
-    ensures within { IfOk result HasSmallSpan }
+    ensures within { IfOk result HasSmallTestSpan }
 {
     least_values_decide();
     greatest_values_decide();
@@ -109,7 +109,7 @@ fn site_verdict(
     requires charges { IsChargeList problem.now charges.now }
     requires site { i < problem.now.sites }
     ensures verdict { IfOk result (IsPopulationVerdict problem.now charges.now i) }
-    ensures within { IfOk result HasSmallSpan }
+    ensures within { IfOk result HasSmallTestSpan }
 {
     match charges.at(i) {
         Charge::Neg => one_test(alloc, problem, charges, i, Test::AboveMinus),
@@ -132,7 +132,7 @@ pub fn population(
         (λ v. (v ≡ PopulationVerdict.Always) ↔ HoldAlways problem.now charges.now i) }
     ensures never { IfOk result
         (λ v. (v ≡ PopulationVerdict.Never) ↔ OneNeverHolds problem.now charges.now i) }
-    ensures within { IfOk result HasSmallSpan }
+    ensures within { IfOk result HasSmallTestSpan }
 {
     problems_have_tables();
     let _known = problem.sites();

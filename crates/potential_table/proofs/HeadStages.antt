@@ -14,10 +14,10 @@ use Rattle.text_rows.proofs.RowLemmas.{and_both}
 use Rattle.table_reading.specs.declared.line.TableLine.{TableLine}
 use Rattle.table_reading.specs.declared.line.TableLine.TheVariants.{FirstVersion, SecondVersion, Sites, Fixed, Base, Levels, Charge, Class}
 use Rattle.table_reading.specs.Seen.{ends_of}
-use Rattle.table_reading.specs.Kinds.{sites_of, fixed_of, charges_of, spans_of, pair_in, pair_class, near_in, near_class, most_classes}
-use Rattle.table_reading.specs.Order.{may_follow, may_follow_charges}
+use Rattle.table_reading.specs.Kinds.{site_count_in, fixed_of, fixed_charges_in, spans_of, pair_in, pair_class, near_in, near_class, most_classes}
+use Rattle.table_reading.specs.Order.{may_follow_lines, may_follow_charges}
 use Rattle.table_reading.specs.Ranges.{is_from_to}
-use Rattle.table_reading.specs.Reading.{IsFineAt}
+use Rattle.table_reading.specs.Reading.{IsFineTableLine}
 use Rattle.table_reading.proofs.KindLemmas.{pair_push, near_push}
 use Rattle.table_reading.proofs.Sound.{fault_none}
 use Rattle.potential_table.specs.TableRows.{head_lines, charge_lines, class_lines}
@@ -37,7 +37,7 @@ no_place_more ls l h f g = record {
 -- the lines with these charges, where a charge may follow until all came
 pub record HasCharges (p : Problem) (ls : List TableLine) (cs : List ℤ) : Type 0 where
   pub begun : AreBegun p ls cs []
-  pub follow : (l : TableLine) → may_follow ls l ≡ may_follow_charges ls l
+  pub follow : (l : TableLine) → may_follow_lines ls l ≡ may_follow_charges ls l
   pub no_places : HasNoPlaces ls
 
 base_in : (b : ℕ) → (b ≡ 2) ⊎ (b ≡ 3) → (is_from_to (pos 2) (pos 3) (pos b) ≡ true) × IsShort (pos b)
@@ -47,7 +47,7 @@ base_in b (inr h) = (subst (λ n. is_from_to (pos 2) (pos 3) (pos n) ≡ true) (
 short_level : (z : ℤ) → neg_ℤ MAX_LEVEL ≤ℤ z → z ≤ℤ MAX_LEVEL → IsShort z
 short_level z h k = omega (arith, ints, h, k)
 
-levels_fine : (p : Problem) (ls : List TableLine) → IsProblem p → may_follow ls (Levels p.mu_minus p.mu_plus) ≡ true → IsFineAt ls (Levels p.mu_minus p.mu_plus)
+levels_fine : (p : Problem) (ls : List TableLine) → IsProblem p → may_follow_lines ls (Levels p.mu_minus p.mu_plus) ≡ true → IsFineTableLine ls (Levels p.mu_minus p.mu_plus)
 levels_fine p ls is follows =
     let high : p.mu_plus ≤ℤ MAX_LEVEL = omega (arith, ints, is.levels, is.greatest_level) in
     let low : neg_ℤ MAX_LEVEL ≤ℤ p.mu_minus = omega (arith, ints, is.levels, is.least_level) in
@@ -57,18 +57,18 @@ levels_fine p ls is follows =
       short = (short_level p.mu_minus low is.greatest_level, short_level p.mu_plus is.least_level high);
     }
 
-base_fine : (p : Problem) (ls : List TableLine) → IsProblem p → may_follow ls (Base (pos p.base)) ≡ true → IsFineAt ls (Base (pos p.base))
+base_fine : (p : Problem) (ls : List TableLine) → IsProblem p → may_follow_lines ls (Base (pos p.base)) ≡ true → IsFineTableLine ls (Base (pos p.base))
 base_fine p ls is follows =
     let b = base_in p.base is.base_2_or_3 in
     record { follows = follows; faultless = fault_none ls _ (Base (pos p.base)) (record { few_sites = refl; few_fixed = refl; in_range = b.0; in_order = refl; once = refl }); short = b.1 }
 
-sites_fine : (p : Problem) (ls : List TableLine) → IsProblem p → may_follow ls (Sites (pos p.sites)) ≡ true → IsFineAt ls (Sites (pos p.sites))
+sites_fine : (p : Problem) (ls : List TableLine) → IsProblem p → may_follow_lines ls (Sites (pos p.sites)) ≡ true → IsFineTableLine ls (Sites (pos p.sites))
 sites_fine p ls is follows =
     let high : pos p.sites ≤ℤ pos MAX_SITES = omega (arith, ints, is.few_sites) in
     let low : pos 0 ≤ℤ pos p.sites = omega (arith, ints) in
     record { follows = follows; faultless = fault_none ls _ (Sites (pos p.sites)) (record { few_sites = no_less _ _ high; few_fixed = refl; in_range = not_below _ _ low; in_order = refl; once = refl }); short = omega (arith, is.few_sites) }
 
-fixed_fine : (p : Problem) (ls : List TableLine) → IsProblem p → may_follow ls (Fixed (pos (fixed_count p))) ≡ true → IsFineAt ls (Fixed (pos (fixed_count p)))
+fixed_fine : (p : Problem) (ls : List TableLine) → IsProblem p → may_follow_lines ls (Fixed (pos (fixed_count p))) ≡ true → IsFineTableLine ls (Fixed (pos (fixed_count p)))
 fixed_fine p ls is follows =
     let high : pos (fixed_count p) ≤ℤ pos MAX_FIXED = omega (arith, ints, is.few_fixed) in
     let low : pos 0 ≤ℤ pos (fixed_count p) = omega (arith, ints) in
@@ -120,11 +120,11 @@ pub head_stage : (p : Problem) → IsProblem p → HasCharges p (head_lines p) [
 head_stage p is = either_head p (fixed_count p == 0) refl is
 
 -- a charge that is not the last
-charge_fine : (p : Problem) (ls : List TableLine) (cs rest : List ℤ) (q : ℤ) → HasCharges p ls cs → IsFixedCharge q → cs ++ q ∷ rest ≡ p.fixed_charges → IsFineAt ls (Charge q)
+charge_fine : (p : Problem) (ls : List TableLine) (cs rest : List ℤ) (q : ℤ) → HasCharges p ls cs → IsFixedCharge q → cs ++ q ∷ rest ≡ p.fixed_charges → IsFineTableLine ls (Charge q)
 charge_fine p ls cs rest q h is whole =
     let count : length cs + suc (length rest) ≡ fixed_count p = sym (length-append cs (q ∷ rest)) ∙ ap length whole in
-    let came : length (charges_of ls) ≡ length cs = ap length h.begun.charges in
-    let below : pos (length (charges_of ls)) <ℤ fixed_of ls = omega (arith, ints, count, came, h.begun.fixed) in
+    let came : length (fixed_charges_in ls) ≡ length cs = ap length h.begun.charges in
+    let below : pos (length (fixed_charges_in ls)) <ℤ fixed_of ls = omega (arith, ints, count, came, h.begun.fixed) in
     record {
       follows = h.follow (Charge q) ∙ cond_true _ _ (is_less _ _ below);
       faultless = fault_none ls _ (Charge q) (record { few_sites = refl; few_fixed = refl; in_range = and_both _ _ (and_both _ _ (not_below _ _ is.least) (not_below _ _ is.greatest)) (ap not (other_int q (pos 0) is.charged)); in_order = refl; once = refl });
@@ -156,8 +156,8 @@ pub record HasClasses (p : Problem) (ls : List TableLine) (ss : List Span) : Typ
 
 all_came : (p : Problem) (ls : List TableLine) → HasCharges p ls p.fixed_charges → HasClasses p ls []
 all_came p ls h =
-    let came : length (charges_of ls) ≡ fixed_count p = ap length h.begun.charges in
-    let below : fixed_of ls ≤ℤ pos (length (charges_of ls)) = omega (arith, ints, came, h.begun.fixed) in
+    let came : length (fixed_charges_in ls) ≡ fixed_count p = ap length h.begun.charges in
+    let below : fixed_of ls ≤ℤ pos (length (fixed_charges_in ls)) = omega (arith, ints, came, h.begun.fixed) in
     record { begun = h.begun; follow = λ l e. h.follow l ∙ cond_false _ _ _ (no_less _ _ below) e; no_places = h.no_places }
 
 pub ends_count : (spans : List Span) → length (ends_of spans) ≡ length spans
@@ -168,13 +168,13 @@ ends_more : (ss : List Span) (s : Span) → ends_of ss ++ (s.lo, s.hi) ∷ [] �
 ends_more [] s = refl
 ends_more (t ∷ ss) s = ap (λ r. (t.lo, t.hi) ∷ r) (ends_more ss s)
 
-class_fine : (p : Problem) (ls : List TableLine) (ss rest : List Span) (s : Span) → IsProblem p → HasClasses p ls ss → AreSpans (s ∷ rest) → ss ++ s ∷ rest ≡ p.spans → IsFineAt ls (Class s.lo s.hi)
+class_fine : (p : Problem) (ls : List TableLine) (ss rest : List Span) (s : Span) → IsProblem p → HasClasses p ls ss → AreSpans (s ∷ rest) → ss ++ s ∷ rest ≡ p.spans → IsFineTableLine ls (Class s.lo s.hi)
 class_fine p ls ss rest s is h spans whole =
     let first = spans 0 (omega arith) in
     let count : length ss + suc (length rest) ≡ length p.spans = sym (length-append ss (s ∷ rest)) ∙ ap length whole in
     let came : length (spans_of ls) ≡ length ss = ap length h.begun.spans ∙ ends_count ss in
-    let most : most_classes (sites_of ls) (fixed_of ls) ≡ pairs_before p.sites p.sites + p.sites * fixed_count p = ap (λ n. most_classes n (fixed_of ls)) h.begun.sites ∙ ap (most_classes (pos p.sites)) h.begun.fixed in
-    let room : length (spans_of ls) < most_classes (sites_of ls) (fixed_of ls) = omega (arith, count, came, most, is.few_classes) in
+    let most : most_classes (site_count_in ls) (fixed_of ls) ≡ pairs_before p.sites p.sites + p.sites * fixed_count p = ap (λ n. most_classes n (fixed_of ls)) h.begun.sites ∙ ap (most_classes (pos p.sites)) h.begun.fixed in
+    let room : length (spans_of ls) < most_classes (site_count_in ls) (fixed_of ls) = omega (arith, count, came, most, is.few_classes) in
     let low : pos 0 ≤ℤ s.lo = first.0 in
     let order : s.lo ≤ℤ s.hi = first.1 in
     let high : s.hi ≤ℤ MAX_POTENTIAL = first.2 in

@@ -13,8 +13,8 @@ use Rattle.table_reading.specs.declared.line.TableLine.{TableLine}
 use Rattle.table_reading.specs.declared.fault.TableFault.TheVariants.{TwiceNear}
 use Rattle.table_reading.specs.Seen.{ends_of}
 use Rattle.table_reading.specs.Filled.{near_place}
-use Rattle.table_reading.specs.Kinds.{sites_of, fixed_of, spans_of, pair_class, near_in, near_class}
-use Rattle.table_reading.specs.Reading.{IsFineAt, IsEarlier}
+use Rattle.table_reading.specs.Kinds.{site_count_in, fixed_of, spans_of, pair_class, near_in, near_class}
+use Rattle.table_reading.specs.Reading.{IsFineTableLine, IsEarlierPair}
 use Rattle.table_reading.proofs.KindLemmas.{pair_push, near_push, or_none}
 use Rattle.table_reading.proofs.ProblemLemmas.{near_in_order}
 use Rattle.table_reading.proofs.Sound.{fault_none}
@@ -30,8 +30,8 @@ pub record HasNear (p : Problem) (ls : List TableLine) (i a : ℕ) : Type 0 wher
   pub begun : AreBegun p ls p.fixed_charges (ends_of p.spans)
   pub follow : IsOpen ls
   pub pairs : (k l : ℕ) → k < l → l < p.sites → pair_class ls (pos k) (pos l) ≡ Some (pos (class_of p k l))
-  pub known : (k b : ℕ) → b < fixed_count p → IsEarlier k b i a → near_class ls (pos k) (pos b) ≡ Some (pos (near_class_of p k b))
-  pub unknown : (k b : ℕ) → (IsEarlier k b i a → ⊥) → near_class ls (pos k) (pos b) ≡ None
+  pub known : (k b : ℕ) → b < fixed_count p → IsEarlierPair k b i a → near_class ls (pos k) (pos b) ≡ Some (pos (near_class_of p k b))
+  pub unknown : (k b : ℕ) → (IsEarlierPair k b i a → ⊥) → near_class ls (pos k) (pos b) ≡ None
 
 no_near : (p : Problem) (ls : List TableLine) → HasPairs p ls p.sites (suc p.sites) → HasNear p ls 0 0
 no_near p ls h = record {
@@ -52,13 +52,13 @@ class_below p i a is site charge =
 some_fixed : (n a : ℕ) → a < n → not (n == 0) ≡ true
 some_fixed n a h = grind (arith, nat_tests)
 
-near_fine : (p : Problem) (ls : List TableLine) (i a : ℕ) → IsProblem p → HasNear p ls i a → i < p.sites → a < fixed_count p → IsFineAt ls (near_line p i a)
+near_fine : (p : Problem) (ls : List TableLine) (i a : ℕ) → IsProblem p → HasNear p ls i a → i < p.sites → a < fixed_count p → IsFineTableLine ls (near_line p i a)
 near_fine p ls i a is h site charge =
     let class = class_below p i a is site charge in
     let few = class_few p _ is class in
     let count : length (spans_of ls) ≡ length p.spans = ap length h.begun.spans ∙ ends_count p.spans in
     let site_low : pos 0 ≤ℤ pos i = omega (arith, ints) in
-    let site_high : pos i <ℤ sites_of ls = omega (arith, ints, site, h.begun.sites) in
+    let site_high : pos i <ℤ site_count_in ls = omega (arith, ints, site, h.begun.sites) in
     let charge_low : pos 0 ≤ℤ pos a = omega (arith, ints) in
     let charge_high : pos a <ℤ fixed_of ls = omega (arith, ints, charge, h.begun.fixed) in
     let class_low : pos 0 ≤ℤ pos (near_class_of p i a) = omega (arith, ints) in
@@ -69,7 +69,7 @@ near_fine p ls i a is h site charge =
       short = (omega (arith, site, is.few_sites), omega (arith, charge, is.few_fixed), omega (arith, few));
     }
 
-known_more : (p : Problem) (ls : List TableLine) (i a k b : ℕ) → HasNear p ls i a → b < fixed_count p → IsEarlier k b i a ⊎ ((k ≡ i) × (b ≡ a)) → near_class (ls ++ near_line p i a ∷ []) (pos k) (pos b) ≡ Some (pos (near_class_of p k b))
+known_more : (p : Problem) (ls : List TableLine) (i a k b : ℕ) → HasNear p ls i a → b < fixed_count p → IsEarlierPair k b i a ⊎ ((k ≡ i) × (b ≡ a)) → near_class (ls ++ near_line p i a ∷ []) (pos k) (pos b) ≡ Some (pos (near_class_of p k b))
 known_more p ls i a k b h below (inl e) =
     near_push ls (near_line p i a) (pos k) (pos b) ∙ ap (λ o. option_or o (near_in (pos k) (pos b) (near_line p i a))) (h.known k b below e)
 known_more p ls i a k b h below (inr e) =

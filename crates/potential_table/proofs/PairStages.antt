@@ -11,8 +11,8 @@ use Rattle.table_reading.specs.declared.line.TableLine.{TableLine}
 use Rattle.table_reading.specs.declared.fault.TableFault.TheVariants.{TwicePair}
 use Rattle.table_reading.specs.Seen.{ends_of}
 use Rattle.table_reading.specs.Filled.{pair_place}
-use Rattle.table_reading.specs.Kinds.{sites_of, spans_of, pair_in, pair_class, near_class}
-use Rattle.table_reading.specs.Reading.{IsFineAt, IsEarlier}
+use Rattle.table_reading.specs.Kinds.{site_count_in, spans_of, pair_in, pair_class, near_class}
+use Rattle.table_reading.specs.Reading.{IsFineTableLine, IsEarlierPair}
 use Rattle.table_reading.proofs.KindLemmas.{pair_push, near_push, or_none}
 use Rattle.table_reading.proofs.ProblemLemmas.{class_in_order}
 use Rattle.table_reading.proofs.Sound.{fault_none}
@@ -26,8 +26,8 @@ use Rattle.potential_table.proofs.EarlierLemmas.{none_before_pairs, not_itself, 
 pub record HasPairs (p : Problem) (ls : List TableLine) (i j : ℕ) : Type 0 where
   pub begun : AreBegun p ls p.fixed_charges (ends_of p.spans)
   pub follow : IsOpen ls
-  pub known : (k l : ℕ) → k < l → l < p.sites → IsEarlier k l i j → pair_class ls (pos k) (pos l) ≡ Some (pos (class_of p k l))
-  pub unknown : (k l : ℕ) → (IsEarlier k l i j → ⊥) → pair_class ls (pos k) (pos l) ≡ None
+  pub known : (k l : ℕ) → k < l → l < p.sites → IsEarlierPair k l i j → pair_class ls (pos k) (pos l) ≡ Some (pos (class_of p k l))
+  pub unknown : (k l : ℕ) → (IsEarlierPair k l i j → ⊥) → pair_class ls (pos k) (pos l) ≡ None
   pub no_near : (k a : ℕ) → near_class ls (pos k) (pos a) ≡ None
 
 no_pairs : (p : Problem) (ls : List TableLine) → HasClasses p ls p.spans → HasPairs p ls 0 1
@@ -46,14 +46,14 @@ class_below p i j is order below =
     let at : pair_place p.sites i j < length p.pair_classes = omega (arith, is.class_per_pair, rows, order, below) in
     subst (λ c. c < length p.spans) (sym (class_in_order p i j order)) (is.classes (pair_place p.sites i j) 0 at)
 
-pair_fine : (p : Problem) (ls : List TableLine) (i j : ℕ) → IsProblem p → HasPairs p ls i j → i < j → j < p.sites → IsFineAt ls (pair_line p i j)
+pair_fine : (p : Problem) (ls : List TableLine) (i j : ℕ) → IsProblem p → HasPairs p ls i j → i < j → j < p.sites → IsFineTableLine ls (pair_line p i j)
 pair_fine p ls i j is h order below =
     let class = class_below p i j is order below in
     let few = class_few p _ is class in
     let count : length (spans_of ls) ≡ length p.spans = ap length h.begun.spans ∙ ends_count p.spans in
     let low : pos 0 ≤ℤ pos i = omega (arith, ints) in
     let less : pos i <ℤ pos j = omega (arith, ints, order) in
-    let high : pos j <ℤ sites_of ls = omega (arith, ints, below, h.begun.sites) in
+    let high : pos j <ℤ site_count_in ls = omega (arith, ints, below, h.begun.sites) in
     let class_low : pos 0 ≤ℤ pos (class_of p i j) = omega (arith, ints) in
     let class_high : pos (class_of p i j) <ℤ pos (length (spans_of ls)) = omega (arith, ints, class, count) in
     record {
@@ -62,7 +62,7 @@ pair_fine p ls i j is h order below =
       short = (omega (arith, order, below, is.few_sites), omega (arith, below, is.few_sites), omega (arith, few));
     }
 
-known_more : (p : Problem) (ls : List TableLine) (i j k l : ℕ) → HasPairs p ls i j → k < l → l < p.sites → IsEarlier k l i j ⊎ ((k ≡ i) × (l ≡ j)) → pair_class (ls ++ pair_line p i j ∷ []) (pos k) (pos l) ≡ Some (pos (class_of p k l))
+known_more : (p : Problem) (ls : List TableLine) (i j k l : ℕ) → HasPairs p ls i j → k < l → l < p.sites → IsEarlierPair k l i j ⊎ ((k ≡ i) × (l ≡ j)) → pair_class (ls ++ pair_line p i j ∷ []) (pos k) (pos l) ≡ Some (pos (class_of p k l))
 known_more p ls i j k l h order below (inl e) =
     pair_push ls (pair_line p i j) (pos k) (pos l) ∙ ap (λ o. option_or o (pair_in (pos k) (pos l) (pair_line p i j))) (h.known k l order below e)
 known_more p ls i j k l h order below (inr e) =

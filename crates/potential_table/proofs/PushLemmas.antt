@@ -6,7 +6,7 @@ use Rattle.std.proofs.lemmas.List.FromFn.{map-range_with_len_more}
 use Rattle.table_reading.specs.declared.line.TableLine.TheVariants.{Class}
 use Rattle.text_rows.specs.Rows.{text_of}
 use Rattle.table_reading.specs.declared.line.TableLine.{TableLine}
-use Rattle.table_reading.specs.Lines.{words_of}
+use Rattle.table_reading.specs.Lines.{table_line_words}
 
 -- one more of the items
 pub one_more : {X : Type 0} (f : X → TableLine) (old xs ys : List TableLine) (items : List X) (i : ℕ) (d : X) → i < length items → xs ≡ old ++ map f (take i items) → ys ≡ xs ++ f (get_or items i d) ∷ [] → ys ≡ old ++ map f (take (i + 1) items)
@@ -47,6 +47,6 @@ text_of-append [] more = refl
 text_of-append (row ∷ rows) more =
     ap (λ text. join_with_byte 32 row ++ 10 ∷ text) (text_of-append rows more) ∙ sym (append_assoc (join_with_byte 32 row) (10 ∷ text_of rows) (text_of more))
 
-pub one_more_line : (xs ys : List ℕ) (lines : List TableLine) (i : ℕ) (d : TableLine) → i < length lines → xs ≡ text_of (map words_of (take i lines)) → ys ≡ xs ++ text_of (words_of (get_or lines i d) ∷ []) → ys ≡ text_of (map words_of (take (i + 1) lines))
+pub one_more_line : (xs ys : List ℕ) (lines : List TableLine) (i : ℕ) (d : TableLine) → i < length lines → xs ≡ text_of (map table_line_words (take i lines)) → ys ≡ xs ++ text_of (table_line_words (get_or lines i d) ∷ []) → ys ≡ text_of (map table_line_words (take (i + 1) lines))
 one_more_line xs ys lines i d lt is pushed =
-    pushed ∙ ap (λ t. t ++ text_of (words_of (get_or lines i d) ∷ [])) is ∙ sym (text_of-append (map words_of (take i lines)) (words_of (get_or lines i d) ∷ [])) ∙ ap text_of (sym (map_more words_of lines i d lt))
+    pushed ∙ ap (λ t. t ++ text_of (table_line_words (get_or lines i d) ∷ [])) is ∙ sym (text_of-append (map table_line_words (take i lines)) (table_line_words (get_or lines i d) ∷ [])) ∙ ap text_of (sym (map_more table_line_words lines i d lt))

@@ -6,22 +6,22 @@ use Rattle.std.proofs.lemmas.Int.{ints}
 use Rattle.std.proofs.lemmas.Bool.Decides.{nat_tests}
 use Rattle.charge_model.specs.Problem.{Problem, fixed_count}
 use Rattle.table_reading.specs.declared.line.TableLine.{TableLine}
-use Rattle.table_reading.specs.Kinds.{is_second, has_fixed_part, sites_after, sites_of, fixed_after, fixed_of, base_after, base_of, minus_after, minus_of, plus_after, plus_of, charges_of, spans_of}
-use Rattle.table_reading.specs.Order.{may_follow, may_follow_last, ends_or_places, is_class}
-use Rattle.table_reading.specs.Reading.{AreFine, IsFineAt}
+use Rattle.table_reading.specs.Kinds.{is_second, has_fixed_part, sites_after, site_count_in, fixed_after, fixed_of, base_after, base_of, minus_after, minus_of, plus_after, plus_of, fixed_charges_in, spans_of}
+use Rattle.table_reading.specs.Order.{may_follow_lines, may_follow_last, ends_or_places, is_class}
+use Rattle.table_reading.specs.Reading.{AreFineTableLines, IsFineTableLine}
 use Rattle.table_reading.proofs.KindLemmas.{or_false, last_push, second_push, sites_push, fixed_push, base_push, minus_push, plus_push, charges_push, spans_push}
 use Rattle.table_reading.proofs.Sound.{fine_more}
 
 -- the lines are fine, and give the problem's counts and levels, these charges and these spans
 pub record AreBegun (p : Problem) (ls : List TableLine) (cs : List ℤ) (ss : List (ℤ × ℤ)) : Type 0 where
-  pub fine : AreFine [] ls
+  pub fine : AreFineTableLines [] ls
   pub second : has_fixed_part ls ≡ not (fixed_count p == 0)
-  pub sites : sites_of ls ≡ pos p.sites
+  pub sites : site_count_in ls ≡ pos p.sites
   pub fixed : fixed_of ls ≡ pos (fixed_count p)
   pub base : base_of ls ≡ pos p.base
   pub minus : minus_of ls ≡ p.mu_minus
   pub plus : plus_of ls ≡ p.mu_plus
-  pub charges : charges_of ls ≡ cs
+  pub charges : fixed_charges_in ls ≡ cs
   pub spans : spans_of ls ≡ ss
 
 -- a line that gives no count and no level
@@ -33,26 +33,26 @@ pub record IsPlain (l : TableLine) : Type 0 where
   pub minus : (n : ℤ) → minus_after n l ≡ n
   pub plus : (n : ℤ) → plus_after n l ≡ n
 
-pub begun_more : (p : Problem) (ls : List TableLine) (l : TableLine) (cs ds : List ℤ) (ss ts : List (ℤ × ℤ)) → AreBegun p ls cs ss → IsPlain l → IsFineAt ls l → cs ++ charges_of (l ∷ []) ≡ ds → ss ++ spans_of (l ∷ []) ≡ ts → AreBegun p (ls ++ l ∷ []) ds ts
+pub begun_more : (p : Problem) (ls : List TableLine) (l : TableLine) (cs ds : List ℤ) (ss ts : List (ℤ × ℤ)) → AreBegun p ls cs ss → IsPlain l → IsFineTableLine ls l → cs ++ fixed_charges_in (l ∷ []) ≡ ds → ss ++ spans_of (l ∷ []) ≡ ts → AreBegun p (ls ++ l ∷ []) ds ts
 begun_more p ls l cs ds ss ts b plain fine e f = record {
   fine = fine_more ls l b.fine fine;
   second = second_push ls l ∙ ap (λ s. has_fixed_part ls || s) plain.second ∙ or_false (has_fixed_part ls) ∙ b.second;
-  sites = sites_push ls l ∙ plain.sites (sites_of ls) ∙ b.sites;
+  sites = sites_push ls l ∙ plain.sites (site_count_in ls) ∙ b.sites;
   fixed = fixed_push ls l ∙ plain.fixed (fixed_of ls) ∙ b.fixed;
   base = base_push ls l ∙ plain.base (base_of ls) ∙ b.base;
   minus = minus_push ls l ∙ plain.minus (minus_of ls) ∙ b.minus;
   plus = plus_push ls l ∙ plain.plus (plus_of ls) ∙ b.plus;
-  charges = charges_push ls l ∙ ap (λ x. x ++ charges_of (l ∷ [])) b.charges ∙ e;
+  charges = charges_push ls l ∙ ap (λ x. x ++ fixed_charges_in (l ∷ [])) b.charges ∙ e;
   spans = spans_push ls l ∙ ap (λ x. x ++ spans_of (l ∷ [])) b.spans ∙ f;
 }
 
 -- a line of a place, or the end, may follow
 abbrev pub IsOpen : List TableLine → Type 0
-IsOpen ls = (l : TableLine) → ends_or_places (has_fixed_part ls) l ≡ true → may_follow ls l ≡ true
+IsOpen ls = (l : TableLine) → ends_or_places (has_fixed_part ls) l ≡ true → may_follow_lines ls l ≡ true
 
 -- a class may follow too
 abbrev pub IsOpenToClass : List TableLine → Type 0
-IsOpenToClass ls = (l : TableLine) → (is_class l || ends_or_places (has_fixed_part ls) l) ≡ true → may_follow ls l ≡ true
+IsOpenToClass ls = (l : TableLine) → (is_class l || ends_or_places (has_fixed_part ls) l) ≡ true → may_follow_lines ls l ≡ true
 
 pub or_right : (a b : Bool) → b ≡ true → (a || b) ≡ true
 or_right true b h = refl
@@ -67,7 +67,7 @@ cond_false true x y h k = absurd (cc h)
 cond_false false x y h k = k
 
 -- the last line says what may follow
-pub after_last : (ls : List TableLine) (l m : TableLine) → may_follow (ls ++ l ∷ []) m ≡ may_follow_last (ls ++ l ∷ []) (Some l) m
+pub after_last : (ls : List TableLine) (l m : TableLine) → may_follow_lines (ls ++ l ∷ []) m ≡ may_follow_last (ls ++ l ∷ []) (Some l) m
 after_last ls l m = ap (λ last. may_follow_last (ls ++ l ∷ []) last m) (last_push ls l)
 
 -- tests of numbers

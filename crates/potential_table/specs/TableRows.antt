@@ -4,7 +4,7 @@ use Rattle.std.specs.List.{range_with_len}
 use Rattle.charge_model.specs.Problem.{Problem, class_of, near_class_of, fixed_count}
 use Rattle.table_reading.specs.declared.line.TableLine.{TableLine}
 use Rattle.table_reading.specs.declared.line.TableLine.TheVariants.{FirstVersion, SecondVersion, Sites, Fixed, Base, Levels, Charge, Class, Pair, Near, End}
-use Rattle.table_reading.specs.Lines.{words_of}
+use Rattle.table_reading.specs.Lines.{table_line_words}
 
 -- the version, the counts and the levels: version 1 exactly where there is no fixed charge
 abbrev pub head_lines : Problem → List TableLine
@@ -46,11 +46,11 @@ abbrev pub near_lines : Problem → List TableLine
 near_lines p = flat_map (near_at p) (range_with_len 0 p.sites)
 
 -- all lines: the pairs of sites come before the sites with the fixed charges
-abbrev pub lines_of : Problem → List TableLine
-lines_of p =
+abbrev pub problem_lines : Problem → List TableLine
+problem_lines p =
     ((((head_lines p ++ charge_lines p) ++ class_lines p) ++ pair_lines p) ++ near_lines p)
     ++ (End ∷ [])
 
 -- their words
 abbrev pub table_rows : Problem → List (List (List ℕ))
-table_rows p = map words_of (lines_of p)
+table_rows p = map table_line_words (problem_lines p)

@@ -1,7 +1,7 @@
 // The lines of a problem's table text.
 ghost use Rattle.std.specs.Prelude.{◌≡◌, ◌++◌, ◌<◌, IfOk, OnOk};
 ghost use Rattle.charge_model.specs.Problem.{IsProblem, fixed_count};
-ghost use Rattle.potential_table.specs.TableRows.{head_lines, charge_lines, class_lines, pair_line, near_line, pairs_from, near_at, pair_lines, near_lines, lines_of};
+ghost use Rattle.potential_table.specs.TableRows.{head_lines, charge_lines, class_lines, pair_line, near_line, pairs_from, near_at, pair_lines, near_lines, problem_lines};
 
 use potential_problem::Problem;
 use sidb_units::Memory;
@@ -112,7 +112,7 @@ fn push_near(lines: &mut Vec<TableLine>, problem: &Problem) -> Result<(), Memory
 
 /// The lines of the problem's table text, in order.
 pub fn table_lines(alloc: Global, problem: &Problem) -> Result<Vec<TableLine>, Memory>
-    ensures { IfOk result (λ lines. lines.items ≡ lines_of problem.now) }
+    ensures { IfOk result (λ lines. lines.items ≡ problem_lines problem.now) }
 {
     let mut lines = head_of(alloc, problem)?;
     push_charges(&mut lines, problem)?;

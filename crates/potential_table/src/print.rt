@@ -1,7 +1,7 @@
 // The bytes of lines.
 ghost use Rattle.std.specs.Prelude.{◌≡◌, ◌++◌, ◌∷◌, [], map, string_bytes, IfOk, OnOk};
 ghost use Rattle.text_rows.specs.Rows.{text_of};
-ghost use Rattle.table_reading.specs.Lines.{words_of};
+ghost use Rattle.table_reading.specs.Lines.{table_line_words};
 ghost use Rattle.potential_table.specs.TableRows.{table_rows};
 
 use crate::lines::table_lines;
@@ -13,7 +13,7 @@ use text_rows::push_bytes;
 
 // The text of a line.
 fn line_text(alloc: Global, line: &TableLine) -> Result<String, Memory>
-    ensures { IfOk result (λ text. string_bytes text ≡ text_of (words_of line.now ∷ [])) }
+    ensures { IfOk result (λ text. string_bytes text ≡ text_of (table_line_words line.now ∷ [])) }
 {
     match *line {
         TableLine::FirstVersion => Ok("sidb-table 1\n".to_string(alloc)?),
@@ -32,7 +32,8 @@ fn line_text(alloc: Global, line: &TableLine) -> Result<String, Memory>
 
 // Adds a line.
 fn push_line(alloc: Global, text: &mut Vec<u8>, line: &TableLine) -> Result<(), Memory>
-    ensures { OnOk result (text.new.items ≡ text.old.items ++ text_of (words_of line.now ∷ [])) }
+    ensures { OnOk result (text.new.items
+        ≡ text.old.items ++ text_of (table_line_words line.now ∷ [])) }
 {
     let row = line_text(alloc, line)?;
     push_bytes(text, row.as_bytes())
@@ -40,7 +41,7 @@ fn push_line(alloc: Global, text: &mut Vec<u8>, line: &TableLine) -> Result<(), 
 
 // The text of the lines.
 fn print_lines(alloc: Global, lines: &[TableLine]) -> Result<Vec<u8>, Memory>
-    ensures { IfOk result (λ text. text.items ≡ text_of (map words_of lines.now)) }
+    ensures { IfOk result (λ text. text.items ≡ text_of (map table_line_words lines.now)) }
 {
     let mut text = Vec::new(alloc);
     for line in lines {

@@ -3,7 +3,7 @@ ghost use Rattle.charge_model.specs.Rules.{sum_below};
 ghost use Rattle.charge_model.specs.Prefixes.{site_low, low};
 ghost use Rattle.prefix_extremes.specs.Flags.{AreFlags};
 ghost use Rattle.prefix_extremes.specs.Parts.{cost_of, with_choice, least_cost, assigned_low, unassigned_low, open_pair_low, pairs_low};
-ghost use Rattle.prefix_extremes.specs.Amounts.{value_of};
+ghost use Rattle.prefix_extremes.specs.Amounts.{amount_value};
 
 use crate::amount::{Amount, added, lesser, negated};
 use crate::by_parts::low_by_parts;
@@ -29,7 +29,7 @@ pub fn cost(charge: Charge, known: Extremes) -> Amount
 
 /// The lesser of a cost, where it is allowed, and the others.
 fn with_choice(allowed: bool, cost: Amount, others: Option<Amount>) -> Option<Amount>
-    ensures { value_of result ≡ with_choice allowed cost.value (value_of others) }
+    ensures { amount_value result ≡ with_choice allowed cost.value (amount_value others) }
 {
     if !allowed {
         return others;

@@ -14,8 +14,7 @@ pub mod laws;
 pub use amount::{Amount, added, negated};
 pub use bound::{cost, low, pairs_low};
 pub use by_parts::{
-    can_by_parts, low_by_parts, site_low_by_parts, unassigned_keeps_open,
-    whole_extremes,
+    can_by_parts, low_by_parts, site_low_by_parts, unassigned_keeps_open, whole_extremes,
 };
 pub use calls::{can, closed_at};
 pub use extremes::{

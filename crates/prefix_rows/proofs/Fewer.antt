@@ -9,7 +9,7 @@ use Rattle.charge_model.specs.Prefixes.{may_be_positive}
 use Rattle.prefix_extremes.specs.Parts.{hi_of, least_open_term, greatest_open_term, least_unassigned, greatest_unassigned}
 use Rattle.prefix_extremes.specs.Known.{IsUnassigned}
 use Rattle.prefix_extremes.specs.declared.extremes.Extremes.{Extremes}
-use Rattle.prefix_rows.specs.Rows.{IsSpan}
+use Rattle.prefix_rows.specs.Rows.{IsSpanOfPair}
 use Rattle.prefix_rows.proofs.Written.{sum_same}
 
 -- the first term of a sum
@@ -61,7 +61,7 @@ greatest_off true false h first rest before span off sum is at turned whole adde
 greatest_off false true h first rest before span off sum is at turned whole added = omega (arith, ints, is, at, turned, whole, added)
 greatest_off false false h first rest before span off sum is at turned whole added = omega (arith, ints, is, at, turned, whole, added)
 
-pub one_fewer : (p : Problem) (d k : ℕ) (before span sum : Extremes) (off : ℤ) (may : Bool) → IsProblem p → d < p.sites → IsUnassigned p d k before → IsSpan p d k span → may ≡ may_be_positive p d
+pub one_fewer : (p : Problem) (d k : ℕ) (before span sum : Extremes) (off : ℤ) (may : Bool) → IsProblem p → d < p.sites → IsUnassigned p d k before → IsSpanOfPair p d k span → may ≡ may_be_positive p d
     → off ≡ cond may (neg_ℤ span.greatest.value) (pos 0) → sum.least.value ≡ before.least.value +ℤ span.greatest.value → sum.greatest.value ≡ before.greatest.value +ℤ off
     → IsUnassigned p (d + 1) k sum
 one_fewer p d k before span sum off may valid room is at may_is off_is least_is greatest_is =

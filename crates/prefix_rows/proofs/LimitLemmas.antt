@@ -13,8 +13,8 @@ use Rattle.prefix_extremes.specs.Closed.{keeps_open}
 use Rattle.prefix_extremes.specs.Known.{AreExtremes}
 use Rattle.prefix_extremes.specs.declared.extremes.Extremes.{Extremes}
 use Rattle.prefix_rows.specs.declared.row.Row.{Row}
-use Rattle.prefix_rows.specs.Rows.{IsWritten, extremes_at}
-use Rattle.prefix_rows.specs.Limits.{far, least_limit, greatest_limit, IsLimit, AreLimitsOf}
+use Rattle.prefix_rows.specs.Rows.{IsRowWritten, extremes_at}
+use Rattle.prefix_rows.specs.Limits.{beyond_extremes, least_limit, greatest_limit, IsLimit, AreLimitsOf}
 use Rattle.prefix_rows.proofs.Written.{charge_before, charge_pushed}
 
 and_comm : (a b : Bool) → (a && b) ≡ (b && a)
@@ -28,16 +28,16 @@ and_true true = refl
 and_true false = refl
 
 -- no extreme is far
-below_far : (x : ℤ) → unsigned_abs x ≤ 152 * 10 ^ 13 → int_le x far ≡ true
+below_far : (x : ℤ) → unsigned_abs x ≤ 152 * 10 ^ 13 → int_le x beyond_extremes ≡ true
 below_far x small = grind (arith, ints)
 
-above_far : (x : ℤ) → unsigned_abs x ≤ 152 * 10 ^ 13 → int_le (neg_ℤ far) x ≡ true
+above_far : (x : ℤ) → unsigned_abs x ≤ 152 * 10 ^ 13 → int_le (neg_ℤ beyond_extremes) x ≡ true
 above_far x small = grind (arith, ints)
 
-not_below_far : (x : ℤ) → unsigned_abs x ≤ 152 * 10 ^ 13 → int_le x (neg_ℤ far) ≡ false
+not_below_far : (x : ℤ) → unsigned_abs x ≤ 152 * 10 ^ 13 → int_le x (neg_ℤ beyond_extremes) ≡ false
 not_below_far x small = grind (arith, ints)
 
-positive_limit : (b : Bool) (x level : ℤ) → unsigned_abs x ≤ 152 * 10 ^ 13 → int_le x (cond b level (neg_ℤ far)) ≡ (b && int_le x level)
+positive_limit : (b : Bool) (x level : ℤ) → unsigned_abs x ≤ 152 * 10 ^ 13 → int_le x (cond b level (neg_ℤ beyond_extremes)) ≡ (b && int_le x level)
 positive_limit true x level small = refl
 positive_limit false x level small = not_below_far x small
 
@@ -72,7 +72,7 @@ opens_where_all p q = refl
 
 -- the limits after one more charge, and of a shorter prefix
 pub limits_pushed : (p : Problem) (q : List Charge) (c : Charge) (old new : Row) (d : ℕ) (limit : Extremes) → d ≡ length q
-    → IsWritten old d limit new → IsLimit p c limit → AreLimitsOf p q old → AreLimitsOf p (q ++ c ∷ []) new
+    → IsRowWritten old d limit new → IsLimit p c limit → AreLimitsOf p q old → AreLimitsOf p (q ++ c ∷ []) new
 limits_pushed p q c old new d limit depth written is are k l = by (omega (arith, l, length-append q (c ∷ []))) (cases_eq k d)
   where
     by : k ≤ length q → (k ≡ d) ⊎ (k ≢ d) → IsLimit p (charge_at (q ++ c ∷ []) k) (extremes_at new k)

@@ -4,7 +4,7 @@ use Rattle.charge_model.specs.declared.charge.Charge.TheVariants.{Neg}
 use Rattle.charge_model.specs.Problem.{class_of, near_class_of}
 use Rattle.charge_model.specs.Prefixes.{least_fixed, greatest_fixed}
 use Rattle.prefix_rows.specs.Limits.{IsLimit}
-use Rattle.prefix_rows.specs.Rows.{IsSpan, IsWritten}
+use Rattle.prefix_rows.specs.Rows.{IsSpanOfPair, IsRowWritten}
 use Rattle.prefix_rows.specs.Tables.{IsPrefixPart}
 use Rattle.prefix_rows.proofs.StandardFacts.{neighbours, amount}
 
@@ -18,10 +18,10 @@ no_other_limit : IsLimit neighbours Neg (record { least = record { value = neg_�
 no_other_limit is = let e = is.greatest in cc
 
 -- the greatest is written with the least
-not_half_written : IsWritten (record { least = amount 0 ∷ []; greatest = amount 0 ∷ [] }) 0 (record { least = amount 3; greatest = amount 5 })
+not_half_written : IsRowWritten (record { least = amount 0 ∷ []; greatest = amount 0 ∷ [] }) 0 (record { least = amount 3; greatest = amount 5 })
     (record { least = amount 3 ∷ []; greatest = amount 0 ∷ [] }) → ⊥
 not_half_written is = let e = ap (λ x. x.greatest.value) is.here in cc
 
 -- a site adds nothing to its own potential
-no_own_span : IsSpan neighbours 1 1 (record { least = amount 620124254312; greatest = amount 620124254313 }) → ⊥
+no_own_span : IsSpanOfPair neighbours 1 1 (record { least = amount 620124254312; greatest = amount 620124254313 }) → ⊥
 no_own_span is = let e = is.lo in cc

@@ -7,7 +7,7 @@ use Rattle.charge_model.specs.Problem.{Problem, class_of, near_class_of}
 use Rattle.charge_model.specs.Prefixes.{least_fixed, greatest_fixed, least_potential, may_be_positive}
 use Rattle.prefix_rows.specs.Tables.{IsPairPart, IsPrefixPart}
 use Rattle.prefix_rows.specs.Limits.{IsLimit}
-use Rattle.prefix_rows.specs.Rows.{IsSpan, IsWritten, extremes_at}
+use Rattle.prefix_rows.specs.Rows.{IsSpanOfPair, IsRowWritten, extremes_at}
 use Rattle.prefix_extremes.specs.declared.amount.Amount.{Amount}
 
 abbrev span : (lo hi : ℤ) → lo ≤ℤ hi → Span
@@ -32,11 +32,11 @@ neighbours = record {
 }
 
 -- the first two sites stand in one pair, and a site in none with itself
-span_of_pair : IsSpan neighbours 0 1 (record { least = amount 620124254312; greatest = amount 620124254313 })
+span_of_pair : IsSpanOfPair neighbours 0 1 (record { least = amount 620124254312; greatest = amount 620124254313 })
 unfolding class_of
 span_of_pair = record { lo = refl; hi = refl; order = omega (arith, ints); small = record { least = omega arith; greatest = omega arith } }
 
-span_of_one : IsSpan neighbours 1 1 (record { least = zero_amount; greatest = zero_amount })
+span_of_one : IsSpanOfPair neighbours 1 1 (record { least = zero_amount; greatest = zero_amount })
 span_of_one = record { lo = refl; hi = refl; order = omega (arith, ints); small = record { least = omega arith; greatest = omega arith } }
 
 -- no site is assigned: the pairs with the site in the middle may be one negative, one positive
@@ -54,7 +54,7 @@ limit_of_neutral : IsLimit neighbours Neutral (record { least = record { value =
 limit_of_neutral = record { least = refl; greatest = refl }
 
 -- a row of one site
-one_site_written : IsWritten (record { least = zero_amount ∷ []; greatest = zero_amount ∷ [] }) 0 (record { least = zero_amount; greatest = amount 5 })
+one_site_written : IsRowWritten (record { least = zero_amount ∷ []; greatest = zero_amount ∷ [] }) 0 (record { least = zero_amount; greatest = amount 5 })
     (record { least = zero_amount ∷ []; greatest = amount 5 ∷ [] })
 one_site_written = record { here = refl; others = λ i ne. past i ne }
   where

@@ -14,7 +14,7 @@ use Rattle.charge_model.specs.Rules.{sum_below}
 use Rattle.prefix_extremes.specs.declared.extremes.Extremes.{Extremes}
 use Rattle.prefix_rows.specs.declared.row.Row.{Row}
 use Rattle.prefix_extremes.specs.Known.{IsAssigned, AreSmall}
-use Rattle.prefix_rows.specs.Rows.{IsRow, IsSpan, IsWritten, extremes_at}
+use Rattle.prefix_rows.specs.Rows.{IsRow, IsSpanOfPair, IsRowWritten, extremes_at}
 
 -- sums
 pub sum_same : (n : ℕ) (f g : ℕ → ℤ) → ((k : ℕ) → k < n → f k ≡ g k) → sum_below n f ≡ sum_below n g
@@ -35,14 +35,14 @@ size_more : (n : ℕ) (total term sum : ℤ) → unsigned_abs total ≤ (24 + n)
 size_more n total term sum before now is = omega (arith, ints, before, now, is)
 
 -- the extremes of one site are written
-pub written : (row : Row) (k : ℕ) (e : Extremes) → k < length row.least → k < length row.greatest → IsWritten row k e (record { least = set row.least k e.least; greatest = set row.greatest k e.greatest })
+pub written : (row : Row) (k : ℕ) (e : Extremes) → k < length row.least → k < length row.greatest → IsRowWritten row k e (record { least = set row.least k e.least; greatest = set row.greatest k e.greatest })
 written row k e l g = record {
   here = rw (get_or-set_same row.least k e.least (record { value = pos 0 }) l, get_or-set_same row.greatest k e.greatest (record { value = pos 0 }) g) refl;
   others = λ i ne. rw (get_or-set_other row.least k i e.least (record { value = pos 0 }) ne, get_or-set_other row.greatest k i e.greatest (record { value = pos 0 }) ne) refl;
 }
 
 -- one more site is written
-pub row_more : (k : ℕ) (P : ℕ → Extremes → Type 0) (old new : Row) (e : Extremes) → IsWritten old k e new → IsRow k P old → P k e → IsRow (k + 1) P new
+pub row_more : (k : ℕ) (P : ℕ → Extremes → Type 0) (old new : Row) (e : Extremes) → IsRowWritten old k e new → IsRow k P old → P k e → IsRow (k + 1) P new
 row_more k P old new e is before here i h = by (cases_eq i k)
   where
     by : (i ≡ k) ⊎ (i ≢ k) → P i (extremes_at new i)
@@ -89,7 +89,7 @@ greatest_turned false n lo hi = refl
 pub ordered_products : (lo hi : ℤ) → lo ≤ℤ hi → (neg_ℤ hi ≡ lesser (negsuc 0 *ℤ lo) (negsuc 0 *ℤ hi)) × (neg_ℤ lo ≡ greater (negsuc 0 *ℤ lo) (negsuc 0 *ℤ hi))
 ordered_products lo hi order = (grind (arith, ints), grind (arith, ints))
 
-pub assigned_pushed : (p : Problem) (q : List Charge) (c : Charge) (k : ℕ) (before span term sum : Extremes) → IsAssigned p q (length q) k before → IsSpan p (length q) k span
+pub assigned_pushed : (p : Problem) (q : List Charge) (c : Charge) (k : ℕ) (before span term sum : Extremes) → IsAssigned p q (length q) k before → IsSpanOfPair p (length q) k span
     → term.least.value ≡ lesser (number_of c *ℤ span.least.value) (number_of c *ℤ span.greatest.value)
     → term.greatest.value ≡ greater (number_of c *ℤ span.least.value) (number_of c *ℤ span.greatest.value)
     → AreSmall (10 ^ 13) term

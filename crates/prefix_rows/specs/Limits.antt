@@ -9,20 +9,20 @@ use Rattle.prefix_rows.specs.declared.row.Row.{Row}
 use Rattle.prefix_rows.specs.Rows.{extremes_at}
 
 -- farther from 0 than each extreme of a potential, in 10^-12 V
-abbrev pub far : ℤ
-far = pos (10 ^ 18)
+abbrev pub beyond_extremes : ℤ
+beyond_extremes = pos (10 ^ 18)
 
 -- a site can have a charge where its least potential is at most this
 abbrev pub least_limit : Problem → Charge → ℤ
-least_limit p Neg = far
+least_limit p Neg = beyond_extremes
 least_limit p Neutral = p.mu_minus
-least_limit p Pos = if p.base == 3 then p.mu_plus else neg_ℤ far
+least_limit p Pos = if p.base == 3 then p.mu_plus else neg_ℤ beyond_extremes
 
 -- and its greatest potential at least this
 abbrev pub greatest_limit : Problem → Charge → ℤ
 greatest_limit p Neg = p.mu_minus
 greatest_limit p Neutral = p.mu_plus
-greatest_limit p Pos = neg_ℤ far
+greatest_limit p Pos = neg_ℤ beyond_extremes
 
 -- the limits of a charge
 pub record IsLimit (p : Problem) (c : Charge) (limit : Extremes) : Type 0 where

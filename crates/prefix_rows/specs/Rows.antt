@@ -13,7 +13,7 @@ extremes_at row k = record {
 }
 
 -- the extremes of site k are written into the row, and no others
-pub record IsWritten (old : Row) (k : ℕ) (e : Extremes) (new : Row) : Type 0 where
+pub record IsRowWritten (old : Row) (k : ℕ) (e : Extremes) (new : Row) : Type 0 where
   pub here : extremes_at new k ≡ e
   pub others : (i : ℕ) → i ≢ k → extremes_at new i ≡ extremes_at old i
 
@@ -22,7 +22,7 @@ abbrev pub row_at : List Row → ℕ → Row
 row_at rows d = slice_index_or rows d (record { least = []; greatest = [] })
 
 -- the span of sites k and j, zero where they are the same
-pub record IsSpan (p : Problem) (j k : ℕ) (e : Extremes) : Type 0 where
+pub record IsSpanOfPair (p : Problem) (j k : ℕ) (e : Extremes) : Type 0 where
   pub lo : e.least.value ≡ (if j == k then pos 0 else lo_in p.spans (class_of p k j))
   pub hi : e.greatest.value ≡ (if j == k then pos 0 else hi_in p.spans (class_of p k j))
   pub order : e.least.value ≤ℤ e.greatest.value

@@ -6,7 +6,7 @@ use Rattle.prefix_extremes.specs.Parts.{assigned_low, pairs_low}
 use Rattle.prefix_extremes.specs.declared.amount.Amount.{Amount}
 use Rattle.prefix_rows.specs.declared.row.Row.{Row}
 use Rattle.prefix_extremes.specs.Known.{IsAssigned, IsUnassigned}
-use Rattle.prefix_rows.specs.Rows.{IsRow, IsSpan, row_at}
+use Rattle.prefix_rows.specs.Rows.{IsRow, IsSpanOfPair, row_at}
 
 -- the part at a depth
 abbrev pub part_at : List Amount → ℕ → Amount
@@ -15,7 +15,7 @@ part_at parts d = slice_index_or parts d (record { value = pos 0 })
 -- the spans of each site below n
 pub record AreSpanRows (p : Problem) (n : ℕ) (rows : List Row) : Type 0 where
   pub whole : length rows ≡ n
-  pub each : (j : ℕ) → j < n → IsRow p.sites (IsSpan p j) (row_at rows j)
+  pub each : (j : ℕ) → j < n → IsRow p.sites (IsSpanOfPair p j) (row_at rows j)
 
 -- the unassigned parts after each number of sites below n
 pub record AreUnassignedRows (p : Problem) (n : ℕ) (rows : List Row) : Type 0 where

@@ -1,6 +1,6 @@
 ghost use Rattle.std.specs.Prelude.{◌≡◌, ◌<◌, length};
 ghost use Rattle.charge_model.specs.declared.TheConstants.{MAX_SITES};
-ghost use Rattle.prefix_rows.specs.Rows.{IsWritten, extremes_at, row_at};
+ghost use Rattle.prefix_rows.specs.Rows.{IsRowWritten, extremes_at, row_at};
 
 use prefix_extremes::{Amount, Extremes};
 use sidb_units::MAX_SITES;
@@ -35,7 +35,7 @@ pub fn row_extremes(row: &Row, k: usize) -> Extremes
 #[tactic(auto, using(crate::proofs::Written::written))]
 pub fn write(row: &mut Row, k: usize, extremes: Extremes)
     requires { k < MAX_SITES }
-    ensures { IsWritten row.old k extremes row.new }
+    ensures { IsRowWritten row.old k extremes row.new }
 {
     row.least[k] = extremes.least;
     row.greatest[k] = extremes.greatest;

@@ -4,7 +4,7 @@ ghost use Rattle.charge_model.specs.Charges.{number_of};
 ghost use Rattle.charge_model.specs.Prefixes.{lesser, greater, may_be_positive, site_low};
 ghost use Rattle.prefix_extremes.specs.Flags.{AreFlags};
 ghost use Rattle.prefix_extremes.specs.Known.{IsAssigned, IsUnassigned, AreExtremes, AreSmall};
-ghost use Rattle.prefix_rows.specs.Rows.{IsRow, IsSpan};
+ghost use Rattle.prefix_rows.specs.Rows.{IsRow, IsSpanOfPair};
 ghost use Rattle.prefix_rows.specs.Tables.{AreRowsOf};
 
 use crate::row::{Row, empty_row, row_extremes, row_in, write};
@@ -18,7 +18,7 @@ use prefix_extremes::{
 fn span_between_sites(problem: &Problem, j: usize, k: usize) -> Extremes
     requires j { j < problem.now.sites }
     requires k { k < problem.now.sites }
-    ensures { IsSpan problem.now j k result }
+    ensures { IsSpanOfPair problem.now j k result }
 {
     let _valid = problem.sites();
     if j == k {
@@ -30,7 +30,7 @@ fn span_between_sites(problem: &Problem, j: usize, k: usize) -> Extremes
 /// The spans of site j with each site.
 pub fn span_row(problem: &Problem, j: usize) -> Row
     requires { j < problem.now.sites }
-    ensures { IsRow problem.now.sites (IsSpan problem.now j) result }
+    ensures { IsRow problem.now.sites (IsSpanOfPair problem.now j) result }
 {
     let mut row = empty_row();
     for k in 0..problem.sites() {
@@ -77,7 +77,7 @@ fn fewer_unassigned(
 ) -> Extremes
     requires depth { depth < problem.now.sites }
     requires before { IsUnassigned problem.now depth k before }
-    requires span { IsSpan problem.now depth k span }
+    requires span { IsSpanOfPair problem.now depth k span }
     requires may { may ≡ may_be_positive problem.now depth }
     ensures { IsUnassigned problem.now (depth + 1) k result }
 {
@@ -100,7 +100,7 @@ pub fn next_unassigned(
     requires flags { AreFlags problem.now problem.now.sites flags.now }
     requires depth { depth < problem.now.sites }
     requires row { IsRow problem.now.sites (IsUnassigned problem.now depth) row.now }
-    requires spans { IsRow problem.now.sites (IsSpan problem.now depth) spans.now }
+    requires spans { IsRow problem.now.sites (IsSpanOfPair problem.now depth) spans.now }
     ensures { IsRow problem.now.sites (IsUnassigned problem.now (depth + 1)) result }
 {
     let _few = problem.sites();
@@ -150,7 +150,7 @@ pub fn next_extremes(
     requires room { length prefix.now < problem.now.sites }
     requires few { problem.now.sites ≤ MAX_SITES }
     requires before { IsAssigned problem.now prefix.now (length prefix.now) k before }
-    requires span { IsSpan problem.now (length prefix.now) k span }
+    requires span { IsSpanOfPair problem.now (length prefix.now) k span }
     ensures { IsAssigned problem.now (prefix.now ++ charge ∷ []) (length prefix.now + 1) k result }
 {
     plus(before, charged(charge, span))
@@ -169,7 +169,7 @@ fn write_next(
     requires row { IsRow problem.now.sites
         (IsAssigned problem.now prefix.now (length prefix.now)) row.now }
     requires spans { IsRow problem.now.sites
-        (IsSpan problem.now (length prefix.now)) spans.now }
+        (IsSpanOfPair problem.now (length prefix.now)) spans.now }
     ensures { IsRow problem.now.sites
         (IsAssigned problem.now (prefix.now ++ charge ∷ []) (length prefix.now + 1)) next.new }
 {
@@ -189,7 +189,7 @@ pub fn advance(problem: &Problem, prefix: &Charges, charge: Charge, rows: &mut [
     requires room { length prefix.now < problem.now.sites }
     requires rows { AreRowsOf problem.now prefix.now rows.old }
     requires spans { IsRow problem.now.sites
-        (IsSpan problem.now (length prefix.now)) spans.now }
+        (IsSpanOfPair problem.now (length prefix.now)) spans.now }
     ensures { AreRowsOf problem.now (prefix.now ++ charge ∷ []) rows.new }
 {
     let depth = prefix.len();

@@ -5,7 +5,7 @@ ghost use Rattle.charge_model.specs.Tree.{is_open};
 ghost use Rattle.prefix_extremes.specs.Closed.{IsFirstClosed, keeps_open};
 ghost use Rattle.prefix_extremes.specs.Parts.{unassigned_low};
 ghost use Rattle.prefix_extremes.specs.Known.{IsAssigned, IsUnassigned, AreExtremes};
-ghost use Rattle.prefix_rows.specs.Rows.{IsRow, IsSpan};
+ghost use Rattle.prefix_rows.specs.Rows.{IsRow, IsSpanOfPair};
 ghost use Rattle.prefix_rows.specs.Limits.{IsLimit, AreLimitsOf};
 
 use crate::limits::is_within_limits;
@@ -90,7 +90,8 @@ pub fn refused_at(
     requires refused { can_be problem.now prefix.now (length prefix.now) charge ≡ false }
     requires row { IsRow problem.now.sites
         (IsAssigned problem.now prefix.now (length prefix.now)) row.now }
-    requires spans { IsRow problem.now.sites (IsSpan problem.now (length prefix.now)) spans.now }
+    requires spans { IsRow problem.now.sites
+        (IsSpanOfPair problem.now (length prefix.now)) spans.now }
     requires rest { IsRow problem.now.sites
         (IsUnassigned problem.now (length prefix.now + 1)) rest.now }
     requires limits { AreLimitsOf problem.now prefix.now limits.now }

@@ -4,7 +4,7 @@ ghost use Rattle.certificate_lines.specs.declared.line.CertLine.TheVariants.{Ent
 ghost use Rattle.charge_model.specs.Problem.{fixed_count};
 ghost use Rattle.text_rows.specs.Rows.{text_of};
 ghost use Rattle.ground_entries.specs.Seen.{seen};
-ghost use Rattle.certificate_lines.specs.Lines.{words_of, entry_line as line_of_entry};
+ghost use Rattle.certificate_lines.specs.Lines.{certificate_line_words, entry_line as line_of_entry};
 ghost use Rattle.certificate_reading.specs.Texts.{head_words};
 ghost use Rattle.prune_certificate.specs.Printed.{entry_part, head_text};
 
@@ -30,7 +30,7 @@ fn first_line(problem: &Problem) -> &'static [u8]
 // The line that names the number of entries.
 fn count_line(alloc: Global, list: &GroundList) -> Result<String, Memory>
     ensures { IfOk result (λ line. string_bytes line
-        ≡ text_of (words_of (Entries (pos (length list.now))) ∷ [])) }
+        ≡ text_of (certificate_line_words (Entries (pos (length list.now))) ∷ [])) }
 {
     let count = list.len();
     Ok(format!(in alloc; "entries {count}\n")?)
@@ -39,7 +39,8 @@ fn count_line(alloc: Global, list: &GroundList) -> Result<String, Memory>
 // Adds the line of an entry.
 fn push_entry(alloc: Global, text: &mut Vec<u8>, entry: &Entry) -> Result<(), Memory>
     ensures { OnOk result (text.new.items
-        ≡ text.old.items ++ text_of (words_of (line_of_entry (seen entry.now)) ∷ [])) }
+        ≡ text.old.items ++ text_of (certificate_line_words (line_of_entry (seen entry.now))
+        ∷ [])) }
 {
     let line = entry_line(alloc, entry)?;
     push_bytes(text, line.as_bytes())?;
@@ -49,7 +50,7 @@ fn push_entry(alloc: Global, text: &mut Vec<u8>, entry: &Entry) -> Result<(), Me
 // Adds the lines of the entries.
 fn push_entries(alloc: Global, text: &mut Vec<u8>, list: &GroundList) -> Result<(), Memory>
     ensures { OnOk result (text.new.items
-        ≡ text.old.items ++ text_of (map words_of (map line_of_entry list.now))) }
+        ≡ text.old.items ++ text_of (map certificate_line_words (map line_of_entry list.now))) }
 {
     for j in 0..list.len() {
         push_entry(alloc, text, list.entry(j))?;

@@ -2,7 +2,7 @@
 use Rattle.std.specs.Prelude.{ℕ, Bool, true, false, Option, None, Some, List, [], ◌∷◌, ◌++◌, length, map, codes, decimal}
 use Rattle.std.specs.Fmt.{signed_decimal}
 use Rattle.charge_state.specs.Text.{charges_text}
-use Rattle.text_rows.specs.Rows.{text_of}
+use Rattle.text_rows.specs.Rows.{text_of, end_rows}
 use Rattle.level_range_laws.specs.Answers.{Outcome}
 use Rattle.level_range_laws.specs.Parts.{Printed}
 use Rattle.level_range.specs.Seen.{entries_in}
@@ -36,15 +36,11 @@ parts_rows [] = []
 parts_rows (x ∷ later) = part_rows x ++ parts_rows later
 
 -- the first three lines: the kind, how many sites there are, and how many parts
-abbrev pub title_rows : ℕ → ℕ → List (List (List ℕ))
-title_rows sites parts = (codes "sidb-range" ∷ codes "1" ∷ [])
+abbrev pub range_title_rows : ℕ → ℕ → List (List (List ℕ))
+range_title_rows sites parts = (codes "sidb-range" ∷ codes "1" ∷ [])
     ∷ (codes "sites" ∷ decimal sites ∷ []) ∷ (codes "parts" ∷ decimal parts ∷ []) ∷ []
-
--- the last line
-abbrev pub end_rows : List (List (List ℕ))
-end_rows = (codes "end" ∷ []) ∷ []
 
 -- the whole text
 abbrev pub range_text : ℕ → List Printed → List ℕ
 range_text sites parts =
-    text_of (title_rows sites (length parts) ++ (parts_rows parts ++ end_rows))
+    text_of (range_title_rows sites (length parts) ++ (parts_rows parts ++ end_rows))

@@ -2,7 +2,7 @@ ghost use Rattle.std.specs.Prelude.{◌≡◌, ◌<◌, ◌++◌, length, string
 ghost use Rattle.std.specs.List.{join_with_byte};
 ghost use Rattle.text_rows.specs.Rows.{text_of};
 ghost use Rattle.level_range_laws.specs.Parts.{printed_at};
-ghost use Rattle.range_report.specs.RangeText.{end_words, part_row, part_rows, parts_rows, range_text, title_rows};
+ghost use Rattle.range_report.specs.RangeText.{end_words, part_row, part_rows, parts_rows, range_text, range_title_rows};
 
 use crate::entries::{outcome_lines, push_line};
 use level_range::Parts;
@@ -60,7 +60,7 @@ fn part_lines(alloc: Global, parts: &Parts) -> Result<String, Memory>
 
 /// The lines before the parts.
 fn title(alloc: Global, sites: usize, parts: usize) -> Result<String, Memory>
-    ensures { IfOk result (λ text. string_bytes text ≡ text_of (title_rows sites parts)) }
+    ensures { IfOk result (λ text. string_bytes text ≡ text_of (range_title_rows sites parts)) }
 {
     Ok(format!(in alloc; "sidb-range 1\nsites {sites}\nparts {parts}\n")?)
 }

@@ -7,7 +7,7 @@ use Rattle.bdl_pairs.specs.declared.cell.CellAnswer.TheVariants.{Works}
 use Rattle.operational_domain.specs.Placed.{Placed}
 use Rattle.parameter_regions.specs.declared.rectangles.Rectangle.{Rectangle}
 use Rattle.parameter_regions.specs.Points.{Point}
-use Rattle.parameter_regions.specs.Rectangles.{IsIn}
+use Rattle.parameter_regions.specs.Rectangles.{IsInRectangle}
 use Rattle.region_tiles.specs.declared.tiles.Tile.{Tile}
 use Rattle.region_tiles.specs.Tiles.{AreJudgedTiles}
 use Rattle.region_domain.specs.Tiles.{IsTileAnswer}
@@ -20,7 +20,7 @@ tile_at : (tiles : List Tile) (r : Rectangle) (k : ℕ) → k < length tiles →
 tile_at tiles r k within is = sym (get_or-map (λ (t : Tile). t.rectangle) tiles k (record { rectangle = r; answer = Works }) r within) ∙ is
 
 pub told : (placed : Placed) → ((r : Rectangle) (answer : CellAnswer) → IsTileAnswer placed r answer → TellsEverywhere placed r answer)
-    → (whole : Rectangle) (tiles : List Tile) → AreJudgedTiles (IsTileAnswer placed) whole tiles → (point : Point) → IsIn whole point → IsToldBy placed tiles point
+    → (whole : Rectangle) (tiles : List Tile) → AreJudgedTiles (IsTileAnswer placed) whole tiles → (point : Point) → IsInRectangle whole point → IsToldBy placed tiles point
 told placed tells whole tiles are point inside =
     let (rectangle, (k, within, is), there) = are.tiling.cover point inside in
     let here : k < length tiles = subst (λ (n : ℕ). k < n) (length-map tiles (λ (t : Tile). t.rectangle)) within in
@@ -30,6 +30,6 @@ told placed tells whole tiles are point inside =
     record {
       tile = tile;
       printed = (k, here, get_or_default tiles k tile none here);
-      inside = subst (λ (q : Rectangle). IsIn q point) (sym same) there;
+      inside = subst (λ (q : Rectangle). IsInRectangle q point) (sym same) there;
       tells = tells tile.rectangle tile.answer (are.answers k none here);
     }

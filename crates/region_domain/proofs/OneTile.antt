@@ -5,7 +5,7 @@ use Rattle.std.proofs.lemmas.Bool.{cases_lt}
 use Rattle.charge_model.specs.Problem.{Problem}
 use Rattle.charge_model.specs.GroundList.{Entry}
 use Rattle.sidb_layout.specs.Layout.{Arrangement, IsLayout}
-use Rattle.ground_state.specs.Answer.{IsListedWithin, IsOverBudget, IsTooLongWithin, IsWithinBudget}
+use Rattle.ground_state.specs.Answer.{IsListedWithin, IsOverLimit, IsTooLongWithin, IsWithinLimit}
 use Rattle.gate_model.specs.declared.pairs.PairOf.{PairOf}
 use Rattle.gate_model.specs.Logic.{Logic, pattern_count}
 use Rattle.bdl_pairs.specs.declared.verdicts.PatternVerdict.{PatternVerdict}
@@ -27,7 +27,7 @@ pub record PartsAreOne : Type 0 where
   pub problem : (layout : Arrangement) (r : Rectangle) (p q : Problem) → IsRegionProblemOf layout r p → IsRegionProblemOf layout r q → p ≡ q
   pub list : (p : Problem) (limit : ℕ) (es fs : List Entry) → IsListedWithin p limit es → IsListedWithin p limit fs → es ≡ fs
   pub length : (p : Problem) (limit : ℕ) (es : List Entry) → IsListedWithin p limit es → IsTooLongWithin p limit → ⊥
-  pub budget : (p : Problem) (limit : ℕ) → IsWithinBudget p limit → IsOverBudget p limit → ⊥
+  pub budget : (p : Problem) (limit : ℕ) → IsWithinLimit p limit → IsOverLimit p limit → ⊥
   pub verdict : (outputs : List PairOf) (wanted : Bool) (es : List Entry) (v w : PatternVerdict) → IsVerdict outputs wanted es v → IsVerdict outputs wanted es w → v ≡ w
 
 module _ (one : PartsAreOne) (placed : Placed) (valid : IsLayout placed.whole) (r : Rectangle) where
@@ -57,7 +57,7 @@ module _ (one : PartsAreOne) (placed : Placed) (valid : IsLayout placed.whole) (
   not_over k v has b =
       let a = has.solved in
       let same = same_problem k a.left b.left a.problem b.problem a.of_pattern b.of_pattern in
-      one.budget b.problem placed.limit (subst (λ p. IsWithinBudget p placed.limit) same.1 a.answers.listed.budget) b.answers
+      one.budget b.problem placed.limit (subst (λ p. IsWithinLimit p placed.limit) same.1 a.answers.listed.budget) b.answers
 
   not_long : (k : ℕ) (v : PatternVerdict) → HasTileVerdict placed r k v → IsTileSolved placed r k SolvedTooLong → ⊥
   not_long k v has b =
@@ -68,7 +68,7 @@ module _ (one : PartsAreOne) (placed : Placed) (valid : IsLayout placed.whole) (
   over_or_long : (k : ℕ) → IsTileSolved placed r k SolvedBudget → IsTileSolved placed r k SolvedTooLong → ⊥
   over_or_long k a b =
       let same = same_problem k a.left b.left a.problem b.problem a.of_pattern b.of_pattern in
-      one.budget b.problem placed.limit b.answers.budget (subst (λ p. IsOverBudget p placed.limit) same.1 a.answers)
+      one.budget b.problem placed.limit b.answers.budget (subst (λ p. IsOverLimit p placed.limit) same.1 a.answers)
 
   -- there is one reason for which it does not work
   same_reason : (a b : CellAnswer) (k : ℕ) → IsTileReason placed r a k → IsTileReason placed r b k → a ≡ b

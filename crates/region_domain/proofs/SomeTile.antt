@@ -7,7 +7,7 @@ use Rattle.sidb_units.specs.declared.TheConstants.{MAX_ENTRIES}
 use Rattle.charge_model.specs.Problem.{Problem, IsProblem}
 use Rattle.charge_model.specs.GroundList.{Entry, IsMarkedGroundList, lists_of}
 use Rattle.sidb_layout.specs.Layout.{Arrangement, IsLayout}
-use Rattle.ground_state.specs.Answer.{IsOverBudget, IsWithinBudget}
+use Rattle.ground_state.specs.Answer.{IsOverLimit, IsWithinLimit}
 use Rattle.gate_model.specs.declared.pairs.PairOf.{PairOf}
 use Rattle.gate_model.specs.Logic.{IsLogic, Logic, pattern_count}
 use Rattle.bdl_pairs.specs.declared.verdicts.PatternVerdict.{PatternVerdict}
@@ -29,7 +29,7 @@ use Rattle.region_domain.proofs.FirstReason.{none_works_yet, one_more, reason_an
 pub record PartsAreThere : Type 0 where
   pub leaves : (whole : Arrangement) (gate : Logic) (k : ℕ) → IsLayout whole → IsLogic gate → IsOn gate whole.sites → (left : Remaining) × IsLeft whole gate k left × IsLayout left.layout
   pub problem : (layout : Arrangement) (r : Rectangle) → IsLayout layout → (q : Problem) × IsRegionProblemOf layout r q × IsProblem q
-  pub decided : (p : Problem) (limit : ℕ) → IsProblem p → IsWithinBudget p limit ⊎ IsOverBudget p limit
+  pub decided : (p : Problem) (limit : ℕ) → IsProblem p → IsWithinLimit p limit ⊎ IsOverLimit p limit
   pub list : (p : Problem) → IsProblem p → (es : List Entry) × IsMarkedGroundList p es
   pub verdict : (outputs : List PairOf) (wanted : Bool) (es : List Entry) → (v : PatternVerdict) × IsVerdict outputs wanted es v
 
@@ -42,7 +42,7 @@ module _ (parts : PartsAreThere) (placed : Placed) (r : Rectangle) where
   with_problem : (k : ℕ) (left : Remaining) (q : Problem) → IsTileProblem placed r k left q → IsProblem q → HasOutcome placed r k
   with_problem k left q of is_problem = by (parts.decided q placed.limit is_problem)
     where
-      listed : IsWithinBudget q placed.limit → ((es : List Entry) × IsMarkedGroundList q es) → HasOutcome placed r k
+      listed : IsWithinLimit q placed.limit → ((es : List Entry) × IsMarkedGroundList q es) → HasOutcome placed r k
       listed budget (es, marked) = count (cases_lt MAX_ENTRIES (length es))
         where
           count : (MAX_ENTRIES < length es) ⊎ (length es ≤ MAX_ENTRIES) → HasOutcome placed r k
@@ -65,7 +65,7 @@ module _ (parts : PartsAreThere) (placed : Placed) (r : Rectangle) where
                 },
               )
 
-      by : IsWithinBudget q placed.limit ⊎ IsOverBudget q placed.limit → HasOutcome placed r k
+      by : IsWithinLimit q placed.limit ⊎ IsOverLimit q placed.limit → HasOutcome placed r k
       by (inl within) = listed within (parts.list q is_problem)
       by (inr over) = inr (inl (record { left = left; problem = q; of_pattern = of; answers = over }))
 

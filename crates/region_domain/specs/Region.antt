@@ -5,7 +5,7 @@ use Rattle.gate_model.specs.Grids.{Axes}
 use Rattle.operational_domain.specs.Placed.{Placed}
 use Rattle.parameter_regions.specs.declared.rectangles.Rectangle.{Rectangle}
 use Rattle.parameter_regions.specs.Points.{Point}
-use Rattle.parameter_regions.specs.Rectangles.{IsIn}
+use Rattle.parameter_regions.specs.Rectangles.{IsInRectangle}
 use Rattle.region_tiles.specs.declared.tiles.Tile.{Tile}
 use Rattle.region_tiles.specs.Refined.{AreGridTiles, IsRefined}
 use Rattle.region_domain.specs.Tiles.{IsTileAnswer}
@@ -23,5 +23,5 @@ AreRegionTiles placed p a depth tiles = AreGridTiles (IsTileAnswer placed) p a d
 pub record IsToldBy (placed : Placed) (tiles : List Tile) (point : Point) : Type 0 where
   pub tile : Tile
   pub printed : Contains tiles tile
-  pub inside : IsIn tile.rectangle point
+  pub inside : IsInRectangle tile.rectangle point
   pub tells : TellsEverywhere placed tile.rectangle tile.answer

@@ -9,7 +9,7 @@ ghost use Rattle.bdl_pairs.specs.declared.cell.CellAnswer.{CellAnswer};
 ghost use Rattle.operational_domain.specs.Placed.{Placed};
 ghost use Rattle.parameter_regions.specs.declared.rectangles.Rectangle.{Rectangle};
 ghost use Rattle.parameter_regions.specs.Points.{Point};
-ghost use Rattle.parameter_regions.specs.Rectangles.{IsIn};
+ghost use Rattle.parameter_regions.specs.Rectangles.{IsInRectangle};
 ghost use Rattle.region_tiles.specs.declared.tiles.Tile.{Tile};
 ghost use Rattle.region_tiles.specs.Rectangles.{IsGridWhole};
 ghost use Rattle.region_domain.specs.Tiles.{IsTileAnswer};
@@ -90,7 +90,7 @@ pub fn each_point_is_told()
     ensures { (placed : Placed) (p : Params) (a : Axes) (depth : ℕ) (whole : Rectangle)
         (tiles : List Tile) → AreAxes a → IsGridWhole p a whole
         → AreRegionTiles placed p a depth tiles
-        → (point : Point) → IsIn whole point → IsToldBy placed tiles point }
+        → (point : Point) → IsInRectangle whole point → IsToldBy placed tiles point }
 {
     refinements_are_tiles::<GateMeaning>();
     answers_tell_of_every_point();

@@ -8,7 +8,7 @@ use Rattle.std.proofs.lemmas.Grind.{flat_map-append}
 use Rattle.std.proofs.lemmas.Slice.Zip.{all_zipped_more}
 use Rattle.model_params.specs.declared.params.Params.{Params}
 use Rattle.model_params.specs.declared.quantity.Quantity.{Quantity}
-use Rattle.model_params.specs.Quantities.{IsWithin}
+use Rattle.model_params.specs.Quantities.{IsInRangeOf}
 use Rattle.gate_model.specs.declared.grid.Axis.{Axis}
 use Rattle.gate_model.specs.Grids.{IsAxis, point_at}
 use Rattle.bdl_pairs.specs.declared.cell.CellAnswer.{CellAnswer}
@@ -32,7 +32,7 @@ steps_more axis start step k before after s of_start of_step was is pushed =
     ∙ sym (map-range_with_len_more (step_at axis) 0 k k (omega arith))
 
 -- the sides of a direction are in range
-pub steps_in_range : (q : Quantity) (axis given : Axis) (xs ys : List Side) → pos 0 ≤ℤ q.least → given ≡ axis → IsAxis q axis → IsWithin q (point_at axis axis.count) → ys ≡ steps_of given → xs ≡ ys → All (IsSideWithin q) xs
+pub steps_in_range : (q : Quantity) (axis given : Axis) (xs ys : List Side) → pos 0 ≤ℤ q.least → given ≡ axis → IsAxis q axis → IsInRangeOf q (point_at axis axis.count) → ys ≡ steps_of given → xs ≡ ys → All (IsSideWithin q) xs
 steps_in_range q axis given xs ys least same is far listed seen =
     let all = steps_within axis (start_above q axis least is) (step_above q axis is) q least (first_within q axis is) far in
     subst (All (IsSideWithin q)) (sym (seen ∙ listed ∙ ap steps_of same)) all

@@ -7,12 +7,12 @@ use Rattle.std.proofs.lemmas.Int.{ints}
 use Rattle.std.proofs.lemmas.List.FromFn.{map-range_with_len_more}
 use Rattle.std.proofs.lemmas.List.Elements.{All-append, All-cons, All-nil}
 use Rattle.model_params.specs.declared.quantity.Quantity.{Quantity}
-use Rattle.model_params.specs.Quantities.{IsWithin, permittivity, screening_length}
+use Rattle.model_params.specs.Quantities.{IsInRangeOf, permittivity, screening_length}
 use Rattle.gate_model.specs.declared.grid.Axis.{Axis}
 use Rattle.gate_model.specs.Grids.{IsAxis, point_at}
 use Rattle.parameter_regions.specs.declared.rectangles.Rectangle.{Rectangle}
 use Rattle.region_tiles.specs.declared.sides.Side.{Side}
-use Rattle.region_tiles.specs.Sides.{IsSideWithin, between, halves_of, is_cut, middle_of, span_of, step_at, steps_of}
+use Rattle.region_tiles.specs.Sides.{IsSideWithin, between, halves_of, is_cut, middle_of, whole_side, step_at, steps_of}
 use Rattle.region_tiles.specs.Rectangles.{eps_side, lam_side}
 use Rattle.region_tiles.proofs.SideLemmas.{AreSteps, more_steps, one_step}
 
@@ -27,7 +27,7 @@ size_grows (pos m) (negsuc n) from le = absurd (omega (arith, ints, le))
 size_grows (negsuc m) z from le = absurd (omega (arith, ints, from))
 
 -- the side between two numbers in range
-side_within : (q : Quantity) (y z : ℤ) → pos 0 ≤ℤ q.least → IsWithin q y → IsWithin q z → y ≤ℤ z → IsSideWithin q (between (unsigned_abs y) (unsigned_abs z))
+side_within : (q : Quantity) (y z : ℤ) → pos 0 ≤ℤ q.least → IsInRangeOf q y → IsInRangeOf q z → y ≤ℤ z → IsSideWithin q (between (unsigned_abs y) (unsigned_abs z))
 side_within q y z least at_y at_z le =
     let from : pos 0 ≤ℤ y = omega (arith, ints, least, at_y.from) in
     let to : pos 0 ≤ℤ z = omega (arith, ints, least, at_z.from) in
@@ -92,13 +92,13 @@ module _ (axis : Axis) (start : pos 0 ≤ℤ axis.start) (step : pos 0 ≤ℤ ax
       let next : n + 1 ≡ suc n = omega arith in
       subst (λ (k : ℕ). AreSteps (between a (unsigned_abs (point_at axis (k + 1)))) (map (step_at axis) (range_with_len 0 (k + 1)))) next (subst (AreSteps (between a b)) (sym listed) both)
 
-  pub steps_are_steps : 1 ≤ axis.count → AreSteps (span_of axis) (steps_of axis)
+  pub steps_are_steps : 1 ≤ axis.count → AreSteps (whole_side axis) (steps_of axis)
   steps_are_steps some =
       let same : axis.count - 1 + 1 ≡ axis.count = omega (arith, some) in
       subst (λ (n : ℕ). AreSteps (between (unsigned_abs (point_at axis 0)) (unsigned_abs (point_at axis n))) (map (step_at axis) (range_with_len 0 n))) same (steps_to (axis.count - 1))
 
   -- points between the ends are in range
-  between_ends : (q : Quantity) (j k : ℕ) → j ≤ k → IsWithin q (point_at axis 0) → IsWithin q (point_at axis k) → IsWithin q (point_at axis j)
+  between_ends : (q : Quantity) (j k : ℕ) → j ≤ k → IsInRangeOf q (point_at axis 0) → IsInRangeOf q (point_at axis k) → IsInRangeOf q (point_at axis j)
   between_ends q j k le first last =
       let grows = mul-le-mul_left (unsigned_abs axis.step) le in
       let at_0 = point_is 0 in
@@ -112,7 +112,7 @@ module _ (axis : Axis) (start : pos 0 ≤ℤ axis.start) (step : pos 0 ≤ℤ ax
       let at_j = point_is j in
       let at_k = point_is k in omega (arith, ints, at_j, at_k, grows)
 
-  pub steps_within : (q : Quantity) → pos 0 ≤ℤ q.least → IsWithin q (point_at axis 0) → IsWithin q (point_at axis axis.count) → All (IsSideWithin q) (steps_of axis)
+  pub steps_within : (q : Quantity) → pos 0 ≤ℤ q.least → IsInRangeOf q (point_at axis 0) → IsInRangeOf q (point_at axis axis.count) → All (IsSideWithin q) (steps_of axis)
   steps_within q least first last = upto axis.count (omega arith)
     where
       upto : (n : ℕ) → n ≤ axis.count → All (IsSideWithin q) (map (step_at axis) (range_with_len 0 n))
@@ -125,11 +125,11 @@ module _ (axis : Axis) (start : pos 0 ≤ℤ axis.start) (step : pos 0 ≤ℤ ax
           let next : n + 1 ≡ suc n = omega arith in
           subst (λ (k : ℕ). All (IsSideWithin q) (map (step_at axis) (range_with_len 0 k))) next (subst (All (IsSideWithin q)) (sym listed) both)
 
-  pub span_within : (q : Quantity) → pos 0 ≤ℤ q.least → IsWithin q (point_at axis 0) → IsWithin q (point_at axis axis.count) → IsSideWithin q (span_of axis)
+  pub span_within : (q : Quantity) → pos 0 ≤ℤ q.least → IsInRangeOf q (point_at axis 0) → IsInRangeOf q (point_at axis axis.count) → IsSideWithin q (whole_side axis)
   span_within q least first last = side_within q (point_at axis 0) (point_at axis axis.count) least first last (points_rise_too 0 axis.count (omega arith))
 
 -- the first point of an axis, and its start, are no less than 0
-pub first_within : (q : Quantity) (axis : Axis) → IsAxis q axis → IsWithin q (point_at axis 0)
+pub first_within : (q : Quantity) (axis : Axis) → IsAxis q axis → IsInRangeOf q (point_at axis 0)
 first_within q axis is = is.inside 0 (omega (arith, is.some))
 
 first_is : (start step : ℤ) → start +ℤ (step *ℤ pos 0) ≡ start

@@ -6,18 +6,18 @@ use Rattle.std.proofs.lemmas.Int.{ints}
 use Rattle.std.specs.Prelude.{All, Contains}
 use Rattle.std.proofs.lemmas.List.Elements.{All-weaker}
 use Rattle.model_params.specs.declared.params.Params.{Params}
-use Rattle.model_params.specs.Params.{AreInRange}
+use Rattle.model_params.specs.Params.{AreParamsInRange}
 use Rattle.model_params.specs.Quantities.{permittivity, screening_length}
 use Rattle.screened_coulomb.specs.Potential.{eps_of, lam_of}
 use Rattle.parameter_regions.specs.Corners.{AreCorners}
 use Rattle.parameter_regions.specs.declared.rectangles.Rectangle.{Rectangle}
 use Rattle.parameter_regions.specs.Points.{Point}
-use Rattle.parameter_regions.specs.Rectangles.{IsIn}
+use Rattle.parameter_regions.specs.Rectangles.{IsInRectangle}
 use Rattle.region_tiles.specs.Alike.{AreAlike}
 use Rattle.region_tiles.specs.declared.sides.Side.{Side}
 use Rattle.region_tiles.specs.Sides.{IsSideWithin, length_of}
 use Rattle.region_tiles.specs.Rectangles.{AreRectangles, HasSides, Sides, eps_side, lam_side, rows_of, sides_of}
-use Rattle.region_tiles.specs.Tiles.{AreApart, AreTiles, IsPart, area_of}
+use Rattle.region_tiles.specs.Tiles.{HaveDisjointInsides, AreTiles, IsPartOfRectangle, area_of}
 use Rattle.region_tiles.proofs.ListLemmas.{zip_all, zip_contains, zip_pairs, zip_sum}
 use Rattle.region_tiles.proofs.SideLemmas.{AreSteps, HasNumber, LiesIn}
 use Rattle.region_tiles.proofs.RowLemmas.{AreBeside, rows_all, rows_apart, rows_contain, rows_size, size_of}
@@ -32,7 +32,7 @@ record Numbers : Type 0 where
   base : ℕ
 
 abbrev AreWithin : Numbers → Type 0
-AreWithin n = AreInRange n.coulomb n.eps n.lam n.depth n.gap n.base
+AreWithin n = AreParamsInRange n.coulomb n.eps n.lam n.depth n.gap n.base
 
 abbrev params_from : (n : Numbers) → AreWithin n → Params
 params_from n within = record { coulomb = n.coulomb; eps = n.eps; lam = n.lam; depth = n.depth; gap = n.gap; base = n.base; in_range = within }
@@ -170,7 +170,7 @@ like_each_other p a b left right = record {
 abbrev LieIn : Sides → Sides → Type 0
 LieIn w s = LiesIn w.eps s.eps × LiesIn w.lam s.lam
 
-part_by_sides : (p : Params) (w s : Sides) (whole part : Rectangle) → HasSides p w whole → LieIn w s → HasSides p s part → IsPart whole part
+part_by_sides : (p : Params) (w s : Sides) (whole part : Rectangle) → HasSides p w whole → LieIn w s → HasSides p s part → IsPartOfRectangle whole part
 part_by_sides p w s whole part of_whole lies of_part =
     let (eps, lam) = lies in
     let a = from_of (eps_side whole) w.eps of_whole.eps in
@@ -196,7 +196,7 @@ in_side s t n d same has = subst (HasNumber n d) same has
 apart_by : (s t : Side) (n d : ℕ) → s.to ≤ t.from → n < s.to * d → t.from * d < n → ⊥
 apart_by s t n d le below above = let grows : s.to * d ≤ t.from * d = mul-le-mul_right d le in omega (arith, grows, below, above)
 
-apart_by_sides : (p : Params) (x y : Sides) (a b : Rectangle) → AreBeside x y → HasSides p x a → HasSides p y b → AreApart a b
+apart_by_sides : (p : Params) (x y : Sides) (a b : Rectangle) → AreBeside x y → HasSides p x a → HasSides p y b → HaveDisjointInsides a b
 apart_by_sides p x y a b (inl eps) of_a of_b point in_a in_b =
     apart_by x.eps y.eps point.eps point.parts eps
     (subst (λ (s : Side). point.eps < s.to * point.parts) of_a.eps in_a.eps_to)
@@ -210,9 +210,9 @@ apart_by_sides p x y a b (inr lam) of_a of_b point in_a in_b =
 pub tiles_by_sides : (p : Params) (w : Sides) (whole : Rectangle) (es ls : List Side) (rs : List Rectangle)
     → HasSides p w whole → AreSteps w.eps es → AreSteps w.lam ls → AreRectangles p es ls rs → AreTiles whole rs
 tiles_by_sides p w whole es ls rs of_whole eps lam are = record {
-  parts = zip_all (LieIn w) (HasSides p) (IsPart whole) (λ s part lies is. part_by_sides p w s whole part of_whole lies is) (rows_of es ls) rs all_lie are;
+  parts = zip_all (LieIn w) (HasSides p) (IsPartOfRectangle whole) (λ s part lies is. part_by_sides p w s whole part of_whole lies is) (rows_of es ls) rs all_lie are;
   cover = cover;
-  apart = zip_pairs AreBeside (HasSides p) AreApart (λ x y a b beside of_a of_b. apart_by_sides p x y a b beside of_a of_b) (rows_of es ls) rs (rows_apart es ls eps.before lam.before) are;
+  apart = zip_pairs AreBeside (HasSides p) HaveDisjointInsides (λ x y a b beside of_a of_b. apart_by_sides p x y a b beside of_a of_b) (rows_of es ls) rs (rows_apart es ls eps.before lam.before) are;
   area = zip_sum size_of area_of (HasSides p) (λ s r is. sizes s r is) (rows_of es ls) rs are ∙ rows_size es ls ∙ ap₂ (λ (m n : ℕ). m * n) eps.length lam.length ∙ sym (sizes w whole of_whole);
 }
   where
@@ -222,7 +222,7 @@ tiles_by_sides p w whole es ls rs of_whole eps lam are = record {
     sizes : (s : Sides) (r : Rectangle) → HasSides p s r → area_of r ≡ size_of s
     sizes s r is = ap₂ (λ (e l : Side). length_of e * length_of l) is.eps is.lam
 
-    cover : (point : Point) → IsIn whole point → (tile : Rectangle) × Contains rs tile × IsIn tile point
+    cover : (point : Point) → IsInRectangle whole point → (tile : Rectangle) × Contains rs tile × IsInRectangle tile point
     cover point inside =
         let (e, of_es, has) = eps.cover point.eps point.parts (in_side (eps_side whole) w.eps point.eps point.parts of_whole.eps (inside.eps_from, inside.eps_to)) in
         let (l, of_ls, also) = lam.cover point.lam point.parts (in_side (lam_side whole) w.lam point.lam point.parts of_whole.lam (inside.lam_from, inside.lam_to)) in

@@ -15,7 +15,7 @@ use Rattle.screened_coulomb.specs.Potential.{eps_of, lam_of}
 use Rattle.parameter_regions.specs.declared.rectangles.Rectangle.{Rectangle}
 use Rattle.region_tiles.specs.declared.sides.Side.{Side}
 use Rattle.region_tiles.specs.declared.tiles.Tile.{Tile}
-use Rattle.region_tiles.specs.Sides.{IsSideWithin, halves_of, span_of, steps_of}
+use Rattle.region_tiles.specs.Sides.{IsSideWithin, halves_of, whole_side, steps_of}
 use Rattle.region_tiles.specs.Rectangles.{AreGridRectangles, AreParts, AreRectangles, HasSides, IsGridWhole, Sides, eps_side, lam_side, rows_of, sides_of}
 use Rattle.region_tiles.specs.Tiles.{AreJudgedTiles, AreTiles, area_of, rectangles_in}
 use Rattle.region_tiles.specs.Areas.{whole_area}
@@ -37,7 +37,7 @@ parts_tile r parts are =
 
 pub grid_tiles : (p : Params) (a : Axes) (whole : Rectangle) (rectangles : List Rectangle) → AreAxes a → IsGridWhole p a whole → AreGridRectangles p a rectangles → AreTiles whole rectangles
 grid_tiles p a whole rectangles axes is are =
-    tiles_by_sides p (sides_of (span_of a.eps) (span_of a.lam)) whole (steps_of a.eps) (steps_of a.lam) rectangles is
+    tiles_by_sides p (sides_of (whole_side a.eps) (whole_side a.lam)) whole (steps_of a.eps) (steps_of a.lam) rectangles is
     (steps_are_steps a.eps (start_above permittivity a.eps (omega (arith, ints)) axes.eps) (step_above permittivity a.eps axes.eps) axes.eps.some)
     (steps_are_steps a.lam (start_above screening_length a.lam (omega (arith, ints)) axes.lam) (step_above screening_length a.lam axes.lam) axes.lam.some)
     are
@@ -65,7 +65,7 @@ some_grid p a axes far =
 
 pub some_whole : (p : Params) (a : Axes) → AreAxes a → HasFarEnds a → (whole : Rectangle) × IsGridWhole p a whole
 some_whole p a axes far =
-    a_rectangle p (span_of a.eps) (span_of a.lam)
+    a_rectangle p (whole_side a.eps) (whole_side a.lam)
     (span_within a.eps (start_above permittivity a.eps (omega (arith, ints)) axes.eps) (step_above permittivity a.eps axes.eps) permittivity (omega (arith, ints)) (first_within permittivity a.eps axes.eps) far.eps)
     (span_within a.lam (start_above screening_length a.lam (omega (arith, ints)) axes.lam) (step_above screening_length a.lam axes.lam) screening_length (omega (arith, ints)) (first_within screening_length a.lam axes.lam) far.lam)
 

@@ -10,7 +10,7 @@ use Rattle.region_tiles.specs.Alike.{AreAlike}
 use Rattle.region_tiles.specs.declared.tiles.Tile.{Tile}
 use Rattle.region_tiles.specs.Sides.{IsSideWithin, between}
 use Rattle.region_tiles.specs.Rectangles.{HasSides, sides_of}
-use Rattle.region_tiles.specs.Tiles.{AreTiles, IsPart, area_of}
+use Rattle.region_tiles.specs.Tiles.{AreTiles, IsPartOfRectangle, area_of}
 use Rattle.region_tiles.specs.Refined.{IsRefined, tile_of}
 use Rattle.region_tiles.proofs.StandardFacts.{params_at, rectangle_at, three_by_two}
 
@@ -39,16 +39,16 @@ module _ (p q : Params) where
   other_coulomb one two is = omega (arith, ints, one, two, is.coulomb)
 
 -- a rectangle that stands out on each side is no part
-out_on_the_left : IsPart (rectangle_at 1 3 1 3 (omega arith) (omega arith) (omega arith) (omega arith)) (rectangle_at 0 3 1 3 (omega arith) (omega arith) (omega arith) (omega arith)) → ⊥
+out_on_the_left : IsPartOfRectangle (rectangle_at 1 3 1 3 (omega arith) (omega arith) (omega arith) (omega arith)) (rectangle_at 0 3 1 3 (omega arith) (omega arith) (omega arith) (omega arith)) → ⊥
 out_on_the_left is = let from = is.eps_from in omega (arith, from)
 
-out_on_the_right : IsPart (rectangle_at 1 3 1 3 (omega arith) (omega arith) (omega arith) (omega arith)) (rectangle_at 1 4 1 3 (omega arith) (omega arith) (omega arith) (omega arith)) → ⊥
+out_on_the_right : IsPartOfRectangle (rectangle_at 1 3 1 3 (omega arith) (omega arith) (omega arith) (omega arith)) (rectangle_at 1 4 1 3 (omega arith) (omega arith) (omega arith) (omega arith)) → ⊥
 out_on_the_right is = let to = is.eps_to in omega (arith, to)
 
-out_below : IsPart (rectangle_at 1 3 1 3 (omega arith) (omega arith) (omega arith) (omega arith)) (rectangle_at 1 3 0 3 (omega arith) (omega arith) (omega arith) (omega arith)) → ⊥
+out_below : IsPartOfRectangle (rectangle_at 1 3 1 3 (omega arith) (omega arith) (omega arith) (omega arith)) (rectangle_at 1 3 0 3 (omega arith) (omega arith) (omega arith) (omega arith)) → ⊥
 out_below is = let from = is.lam_from in omega (arith, from)
 
-out_above : IsPart (rectangle_at 1 3 1 3 (omega arith) (omega arith) (omega arith) (omega arith)) (rectangle_at 1 3 1 4 (omega arith) (omega arith) (omega arith) (omega arith)) → ⊥
+out_above : IsPartOfRectangle (rectangle_at 1 3 1 3 (omega arith) (omega arith) (omega arith) (omega arith)) (rectangle_at 1 3 1 4 (omega arith) (omega arith) (omega arith) (omega arith)) → ⊥
 out_above is = let to = is.lam_to in omega (arith, to)
 
 -- a rectangle left out, or one that stands twice, is no tiling

@@ -3,7 +3,7 @@ use Rattle.std.proofs.Common.{◌≡◌, ℕ, pos, ◌+◌, ◌≤◌, true, Lis
 use Rattle.std.specs.Prelude.{All}
 use Rattle.std.proofs.lemmas.Int.{ints}
 use Rattle.model_params.specs.declared.params.Params.{Params}
-use Rattle.model_params.specs.Params.{AreInRange}
+use Rattle.model_params.specs.Params.{AreParamsInRange}
 use Rattle.model_params.specs.Quantities.{permittivity}
 use Rattle.gate_model.specs.declared.grid.Axis.{Axis}
 use Rattle.bdl_pairs.specs.declared.cell.CellAnswer.{CellAnswer}
@@ -11,7 +11,7 @@ use Rattle.bdl_pairs.specs.declared.cell.CellAnswer.TheVariants.{Works, Fails, U
 use Rattle.parameter_regions.specs.declared.rectangles.Rectangle.{Rectangle}
 use Rattle.region_tiles.specs.declared.sides.Side.{Side}
 use Rattle.region_tiles.specs.declared.tiles.Tile.{Tile}
-use Rattle.region_tiles.specs.Sides.{IsSideWithin, between, halves_of, is_cut, span_of, steps_of}
+use Rattle.region_tiles.specs.Sides.{IsSideWithin, between, halves_of, is_cut, whole_side, steps_of}
 use Rattle.region_tiles.specs.Rectangles.{AreParts, HasSides, can_be_cut, eps_side, lam_side, rows_of, sides_of}
 use Rattle.region_tiles.specs.Tiles.{AreTiles, area_of}
 use Rattle.region_tiles.specs.Areas.{failing_area, open_area, whole_area, working_area}
@@ -35,7 +35,7 @@ eighths = record { start = pos 50000; step = pos 1250; count = 2 }
 two_steps : steps_of eighths ≡ between 50000 51250 ∷ between 51250 52500 ∷ []
 two_steps = refl
 
-the_whole_of_them : span_of eighths ≡ between 50000 52500
+the_whole_of_them : whole_side eighths ≡ between 50000 52500
 the_whole_of_them = refl
 
 -- permittivity is outer

@@ -5,15 +5,15 @@ use Rattle.std.proofs.lemmas.List.Elements.{All-cons, All-nil}
 use Rattle.screened_coulomb.specs.Potential.{eps_of, lam_of}
 use Rattle.parameter_regions.specs.declared.rectangles.Rectangle.{Rectangle}
 use Rattle.parameter_regions.specs.Points.{Point}
-use Rattle.parameter_regions.specs.Rectangles.{IsIn}
+use Rattle.parameter_regions.specs.Rectangles.{IsInRectangle}
 use Rattle.region_tiles.specs.Alike.{AreAlike}
-use Rattle.region_tiles.specs.Tiles.{AreTiles, IsInside, IsPart}
+use Rattle.region_tiles.specs.Tiles.{AreTiles, IsInside, IsPartOfRectangle}
 
 -- a border times the parts of a point
 border : (a b parts : ℕ) → a ≤ b → a * parts ≤ b * parts
 border a b parts le = mul-le-mul_right parts le
 
-pub in_whole : (whole part : Rectangle) (point : Point) → IsPart whole part → IsIn part point → IsIn whole point
+pub in_whole : (whole part : Rectangle) (point : Point) → IsPartOfRectangle whole part → IsInRectangle part point → IsInRectangle whole point
 in_whole whole part point is inside =
     let a = border (eps_of whole.strongest) (eps_of part.strongest) point.parts is.eps_from in
     let b = border (eps_of part.weakest) (eps_of whole.weakest) point.parts is.eps_to in
@@ -27,7 +27,7 @@ in_whole whole part point is inside =
       lam_to = omega (arith, d, inside.lam_to);
     }
 
-pub inside_whole : (whole part : Rectangle) (point : Point) → IsPart whole part → IsInside part point → IsInside whole point
+pub inside_whole : (whole part : Rectangle) (point : Point) → IsPartOfRectangle whole part → IsInside part point → IsInside whole point
 inside_whole whole part point is inside =
     let a = border (eps_of whole.strongest) (eps_of part.strongest) point.parts is.eps_from in
     let b = border (eps_of part.weakest) (eps_of whole.weakest) point.parts is.eps_to in
@@ -43,10 +43,10 @@ inside_whole whole part point is inside =
 alike_itself : (r : Rectangle) → AreAlike r.weakest r.weakest
 alike_itself r = record { coulomb = refl; depth = refl; gap = refl; base = refl }
 
-part_itself : (r : Rectangle) → IsPart r r
+part_itself : (r : Rectangle) → IsPartOfRectangle r r
 part_itself r = record { alike = alike_itself r; eps_from = omega arith; eps_to = omega arith; lam_from = omega arith; lam_to = omega arith }
 
-pub part_of_part : (whole half part : Rectangle) → IsPart whole half → IsPart half part → IsPart whole part
+pub part_of_part : (whole half part : Rectangle) → IsPartOfRectangle whole half → IsPartOfRectangle half part → IsPartOfRectangle whole part
 part_of_part whole half part outer inner = record {
   alike = record {
     coulomb = inner.alike.coulomb ∙ outer.alike.coulomb;
@@ -63,7 +63,7 @@ part_of_part whole half part outer inner = record {
 -- a rectangle tiles itself
 pub one_tile : (r : Rectangle) → AreTiles r (r ∷ [])
 one_tile r = record {
-  parts = All-cons (IsPart r) r [] (part_itself r) (All-nil (IsPart r));
+  parts = All-cons (IsPartOfRectangle r) r [] (part_itself r) (All-nil (IsPartOfRectangle r));
   cover = λ point inside. (r, (0, omega arith, refl), inside);
   apart = λ i j d less within. absurd (omega (arith, less, within));
   area = omega arith;

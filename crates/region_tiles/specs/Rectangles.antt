@@ -7,7 +7,7 @@ use Rattle.gate_model.specs.Grids.{Axes}
 use Rattle.parameter_regions.specs.declared.rectangles.Rectangle.{Rectangle}
 use Rattle.region_tiles.specs.Alike.{AreAlike}
 use Rattle.region_tiles.specs.declared.sides.Side.{Side}
-use Rattle.region_tiles.specs.Sides.{between, halves_of, is_cut, span_of, steps_of}
+use Rattle.region_tiles.specs.Sides.{between, halves_of, is_cut, whole_side, steps_of}
 
 -- the two sides of a rectangle: permittivity and screening length
 pub record Sides : Type 0 where
@@ -54,4 +54,4 @@ AreGridRectangles p a rectangles = AreRectangles p (steps_of a.eps) (steps_of a.
 
 -- the whole rectangle of a grid: from its first points to its far ends
 abbrev pub IsGridWhole : Params → Axes → Rectangle → Type 0
-IsGridWhole p a whole = HasSides p (sides_of (span_of a.eps) (span_of a.lam)) whole
+IsGridWhole p a whole = HasSides p (sides_of (whole_side a.eps) (whole_side a.lam)) whole

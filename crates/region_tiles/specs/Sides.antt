@@ -40,8 +40,8 @@ abbrev pub steps_of : Axis → List Side
 steps_of axis = map (step_at axis) (range_with_len 0 axis.count)
 
 -- the whole side of a direction, from its first point to its far end
-abbrev pub span_of : Axis → Side
-span_of axis =
+abbrev pub whole_side : Axis → Side
+whole_side axis =
     between (unsigned_abs (point_at axis 0)) (unsigned_abs (point_at axis axis.count))
 
 -- how long a side is

@@ -4,14 +4,14 @@ use Rattle.screened_coulomb.specs.Potential.{eps_of, lam_of}
 use Rattle.bdl_pairs.specs.declared.cell.CellAnswer.{CellAnswer}
 use Rattle.parameter_regions.specs.declared.rectangles.Rectangle.{Rectangle}
 use Rattle.parameter_regions.specs.Points.{Point}
-use Rattle.parameter_regions.specs.Rectangles.{IsIn}
+use Rattle.parameter_regions.specs.Rectangles.{IsInRectangle}
 use Rattle.region_tiles.specs.Alike.{AreAlike}
 use Rattle.region_tiles.specs.Sides.{length_of}
 use Rattle.region_tiles.specs.Rectangles.{eps_side, lam_side}
 use Rattle.region_tiles.specs.declared.tiles.Tile.{Tile}
 
 -- a rectangle within the borders of another; all else is the same
-pub record IsPart (whole part : Rectangle) : Type 0 where
+pub record IsPartOfRectangle (whole part : Rectangle) : Type 0 where
   pub alike : AreAlike whole.weakest part.weakest
   pub eps_from : eps_of whole.strongest ≤ eps_of part.strongest
   pub eps_to : eps_of part.weakest ≤ eps_of whole.weakest
@@ -26,8 +26,8 @@ pub record IsInside (r : Rectangle) (point : Point) : Type 0 where
   pub lam_to : point.lam < lam_of r.strongest * point.parts
 
 -- no point is inside both
-abbrev pub AreApart : Rectangle → Rectangle → Type 0
-AreApart a b = (point : Point) → IsInside a point → IsInside b point → ⊥
+abbrev pub HaveDisjointInsides : Rectangle → Rectangle → Type 0
+HaveDisjointInsides a b = (point : Point) → IsInside a point → IsInside b point → ⊥
 
 -- the area, in units of 10^-4 times 10^-4 nm
 abbrev pub area_of : Rectangle → ℕ
@@ -35,10 +35,10 @@ area_of r = length_of (eps_side r) * length_of (lam_side r)
 
 -- parts of a rectangle that cover it, and have but points of their borders in common
 pub record AreTiles (whole : Rectangle) (tiles : List Rectangle) : Type 0 where
-  pub parts : All (IsPart whole) tiles
-  pub cover : (point : Point) → IsIn whole point
-      → (tile : Rectangle) × Contains tiles tile × IsIn tile point
-  pub apart : AllPairs AreApart tiles
+  pub parts : All (IsPartOfRectangle whole) tiles
+  pub cover : (point : Point) → IsInRectangle whole point
+      → (tile : Rectangle) × Contains tiles tile × IsInRectangle tile point
+  pub apart : AllPairs HaveDisjointInsides tiles
   pub area : sum_by area_of tiles ≡ area_of whole
 
 -- the rectangles of tiles

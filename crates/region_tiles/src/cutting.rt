@@ -1,7 +1,7 @@
 // Rectangles by their sides: the parts of a rectangle, and the rectangles of a grid.
 ghost use Rattle.std.specs.Prelude.{◌≡◌, ◌^◌, ◌<◌, ◌++◌, List, All, IfOk, OnOk, map, pos};
 ghost use Rattle.std.specs.List.{AllZip};
-ghost use Rattle.model_params.specs.Quantities.{IsWithin, permittivity, screening_length};
+ghost use Rattle.model_params.specs.Quantities.{IsInRangeOf, permittivity, screening_length};
 ghost use Rattle.gate_model.specs.Grids.{HasFarEnds};
 ghost use Rattle.region_tiles.specs.Alike.{AreAlike};
 ghost use Rattle.region_tiles.specs.Sides.{IsSideWithin};
@@ -125,8 +125,8 @@ fn rectangle_of(params: &Params, eps: Side, lam: Side) -> Rectangle
 
 /// The parameters with another permittivity and another screening length.
 fn corner(params: &Params, eps: u64, lam: u64) -> Params
-    requires eps { IsWithin permittivity (pos eps) }
-    requires lam { IsWithin screening_length (pos lam) }
+    requires eps { IsInRangeOf permittivity (pos eps) }
+    requires lam { IsInRangeOf screening_length (pos lam) }
     ensures eps { result.eps ≡ pos eps }
     ensures lam { result.lam ≡ pos lam }
     ensures rest { AreAlike params.now result }

@@ -6,10 +6,10 @@ ghost use Rattle.gate_model.specs.Grids.{AreAxes, Axes, HasFarEnds};
 ghost use Rattle.bdl_pairs.specs.declared.cell.CellAnswer.{CellAnswer};
 ghost use Rattle.parameter_regions.specs.declared.rectangles.Rectangle.{Rectangle};
 ghost use Rattle.parameter_regions.specs.Points.{Point};
-ghost use Rattle.parameter_regions.specs.Rectangles.{IsIn};
+ghost use Rattle.parameter_regions.specs.Rectangles.{IsInRectangle};
 ghost use Rattle.region_tiles.specs.declared.tiles.Tile.{Tile};
 ghost use Rattle.region_tiles.specs.Rectangles.{AreGridRectangles, AreParts, IsGridWhole};
-ghost use Rattle.region_tiles.specs.Tiles.{AreJudgedTiles, AreTiles, IsPart};
+ghost use Rattle.region_tiles.specs.Tiles.{AreJudgedTiles, AreTiles, IsPartOfRectangle};
 ghost use Rattle.region_tiles.specs.Refined.{AreGridTiles, IsRefined};
 ghost use Rattle.region_tiles.specs.Areas.{whole_area};
 
@@ -17,8 +17,9 @@ use crate::Meaning;
 
 /// The point of a part is a point of the whole.
 pub fn points_of_parts_are_points_of_the_whole()
-    ensures { (whole part : Rectangle) (point : Point) → IsPart whole part → IsIn part point
-        → IsIn whole point }
+    ensures { (whole part : Rectangle) (point : Point) → IsPartOfRectangle whole part
+        → IsInRectangle part point
+        → IsInRectangle whole point }
 {}
 
 /// The tiles of the tiles of a rectangle are tiles of it.

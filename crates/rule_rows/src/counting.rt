@@ -3,16 +3,16 @@ use std::sync::atomic::{AtomicU64, Ordering};
 
 /// Counts the steps of workers: claims apart by even and odd numbers of workers, and the looks not.
 #[derive(Drop)]
-pub struct Counts {
+pub struct StepCounts {
     claims: [AtomicU64; 2],
     enters: AtomicU64,
     publishes: AtomicU64,
 }
 
-impl Counts {
+impl StepCounts {
     /// Nothing was counted yet.
-    pub fn new() -> Counts {
-        Counts {
+    pub fn new() -> StepCounts {
+        StepCounts {
             claims: [AtomicU64::new(0), AtomicU64::new(0)],
             enters: AtomicU64::new(0),
             publishes: AtomicU64::new(0),
@@ -43,7 +43,7 @@ impl Counts {
     }
 }
 
-impl Gate for Counts {
+impl Gate for StepCounts {
     fn at(&self, worker: u64, event: Event) {
         match event {
             Event::Claim => {

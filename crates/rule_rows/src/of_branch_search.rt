@@ -1,6 +1,6 @@
 ghost use Rattle.std.specs.Prelude.{◌≤◌, ◌^◌, unsigned_abs};
 
-use crate::counting::Counts;
+use crate::counting::StepCounts;
 use crate::meeting::Meeting;
 use crate::problems::{two_neighbours, wide_five};
 use branch_search::{Bound, LeafList, LeavesAnswer, RoundAnswer, least_bound, leaves, round};
@@ -104,13 +104,13 @@ fn rounds_find_energies(rt: HostRuntime) -> Result<(), Fail> {
 fn workers_step_on_the_board(rt: HostRuntime) -> Result<(), Fail> {
     let alloc = rt.alloc();
     let problem = two_neighbours(alloc)?;
-    let alone = Counts::new();
+    let alone = StepCounts::new();
     let answer = round(&rt, alloc, &problem, 0, 100, 1, &alone);
     assert!(rt; matches!(answer, RoundAnswer::Done(Some(0))));
     assert_eq!(rt; alone.claims(), (10, 0));
     assert_eq!(rt; alone.enters(), 1);
     assert_eq!(rt; alone.publishes(), 1);
-    let both = Counts::new();
+    let both = StepCounts::new();
     let answer = round(&rt, alloc, &problem, 0, 100, 2, &both);
     assert!(rt; matches!(answer, RoundAnswer::Done(Some(0))));
     let (first, second) = both.claims();
@@ -167,7 +167,7 @@ fn enters_each_once<R: Threads + Sync>(
     requires nodes { (2 ≤ nodes) × (nodes ≤ 100) }
 {
     let problem = wide_five(alloc)?;
-    let gate = Counts::new();
+    let gate = StepCounts::new();
     let within = round(rt, alloc, &problem, threshold, nodes, workers, &gate);
     let over = round(rt, alloc, &problem, threshold, nodes - 1, workers, &NoGate);
     let answers = matches!(within, RoundAnswer::Done(None))

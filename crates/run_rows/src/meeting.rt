@@ -3,15 +3,15 @@ use std::sync::atomic::{AtomicBool, Ordering};
 
 /// Holds each of the first two workers at its first claim until the other one came too.
 #[derive(Drop)]
-pub struct Meeting {
+pub struct ClaimMeeting {
     came: [AtomicBool; 2],
     met: [AtomicBool; 2],
 }
 
-impl Meeting {
+impl ClaimMeeting {
     /// Nobody came yet.
-    pub fn new() -> Meeting {
-        Meeting {
+    pub fn new() -> ClaimMeeting {
+        ClaimMeeting {
             came: [AtomicBool::new(false), AtomicBool::new(false)],
             met: [AtomicBool::new(false), AtomicBool::new(false)],
         }
@@ -23,7 +23,7 @@ impl Meeting {
     }
 }
 
-impl Gate for Meeting {
+impl Gate for ClaimMeeting {
     fn at(&self, worker: u64, event: Event) {
         if event != Event::Claim || worker > 1 {
             return;

@@ -1,5 +1,5 @@
 use crate::case::{Case, outcome, plain, word_list};
-use crate::meeting::Meeting;
+use crate::meeting::ClaimMeeting;
 use crate::steady_run;
 use sidb_io::{NoGate, SteadySink, SteadySource};
 use sim_cli::code;
@@ -111,7 +111,7 @@ fn two_workers_meet(rt: HostRuntime) -> Result<(), Fail> {
         let line = format!(in alloc; "{k}0 0 0\n")?;
         sites.push_str(&line)?;
     }
-    let gate = Meeting::new();
+    let gate = ClaimMeeting::new();
     let (code, both) = outcome(&rt, alloc, &plain("--workers 2", &sites), &gate)?;
     assert_eq!(rt; code, 0);
     assert!(rt; gate.is_over());

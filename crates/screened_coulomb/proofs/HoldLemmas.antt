@@ -6,10 +6,10 @@ use Rattle.std.proofs.Math.Nat.{div-mul-le_self}
 use Rattle.std.proofs.lemmas.Nat.{pow_pos}
 use Rattle.root_exp.specs.declared.TheConstants.{UNIT}
 use Rattle.root_exp.specs.Root.{IsRoot}
-use Rattle.root_exp.specs.Series.{AreSized, closed_divisor, closed_sum, divisor_of, series_sum}
+use Rattle.root_exp.specs.Series.{AreSized, closed_divisor, closed_sum, divisor_of, series_sum, Fraction}
 use Rattle.model_params.specs.declared.params.Params.{Params}
-use Rattle.screened_coulomb.specs.Potential.{Fraction, HoldsDistance, IsAtLeast, IsAtMost, bottom_of, closed_low, coulomb_of, eps_of, high_at_order, lam_of, low_at_order, top_of}
-use Rattle.screened_coulomb.specs.Rounding.{argument_up_of, hi_of, lo_of, quotient_down_of, quotient_up_of}
+use Rattle.screened_coulomb.specs.Potential.{HoldsDistance, IsAtLeast, IsAtMost, bottom_of, closed_low, coulomb_of, eps_of, high_at_order, lam_of, low_at_order, top_of}
+use Rattle.screened_coulomb.specs.Rounding.{argument_up_of, rounded_hi, rounded_lo, quotient_down_of, quotient_up_of}
 use Rattle.screened_coulomb.proofs.OrderLemmas.{above_at, below_at, closed_at, roots}
 use Rattle.screened_coulomb.proofs.SizeLemmas.{argument_up_bound, lam_least, quotient_down_bound, quotient_up_bound}
 
@@ -26,7 +26,7 @@ chosen lo a b x y less is = grind (arith, is)
 module _ (p : Params) (d root f down up : ℕ) (least : 225 * 2 ^ 40 ≤ root) (of_root : IsRoot (d * 4 ^ 40) root) (sized : AreSized f down up) where
   -- the upper end, where the lower sum is contained at an argument of at most the rounded one
   pub high_holds : (x hi : ℕ) → x * lam_of p ≤ 10 * root * 2 ^ 20
-      → ((n q k : ℕ) → 96 ≤ k → x * q ≤ n * UNIT → down * divisor_of q k ≤ 2 ^ f * series_sum n q k) → hi ≡ hi_of (quotient_up_of p root) f down
+      → ((n q k : ℕ) → 96 ≤ k → x * q ≤ n * UNIT → down * divisor_of q k ≤ 2 ^ f * series_sum n q k) → hi ≡ rounded_hi (quotient_up_of p root) f down
       → (k b : ℕ) → 96 ≤ k → IsRoot (d * 4 ^ k) b → IsAtLeast (pos hi) (high_at_order p k b)
   high_holds x hi low contained is k b from of_b =
       let some : 0 < down = omega (arith, sized.one, pow_pos f) in
@@ -36,7 +36,7 @@ module _ (p : Params) (d root f down up : ℕ) (least : 225 * 2 ^ 40 ≤ root) (
 
   -- the lower end, where the upper sum is contained
   pub low_holds : (lo : ℕ) → argument_up_of p root ≤ 25 * UNIT
-      → ((n q k : ℕ) → 96 ≤ k → n * UNIT ≤ argument_up_of p root * q → 2 ^ f * closed_sum n q k ≤ up * closed_divisor n q k) → lo ≡ lo_of (quotient_down_of p root) f up
+      → ((n q k : ℕ) → 96 ≤ k → n * UNIT ≤ argument_up_of p root * q → 2 ^ f * closed_sum n q k ≤ up * closed_divisor n q k) → lo ≡ rounded_lo (quotient_down_of p root) f up
       → (k b : ℕ) → 96 ≤ k → IsRoot (d * 4 ^ k) b → IsAtMost (pos lo) (low_at_order p k b)
   low_holds lo few contained is k b from of_b =
       let end : lo * (up * 2 ^ 23) ≤ quotient_down_of p root * 2 ^ f = rw is (div-mul-le_self (quotient_down_of p root * 2 ^ f) (up * 2 ^ 23)) in

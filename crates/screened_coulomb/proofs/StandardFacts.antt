@@ -3,13 +3,13 @@ use Rattle.std.proofs.Common.{◌*◌, ◌^◌, ℤ, pos, refl, arith}
 use Rattle.std.proofs.lemmas.Int.{ints}
 use Rattle.root_exp.specs.Series.{divisor_of, series_sum, sum_to, term_down, term_up}
 use Rattle.model_params.specs.declared.params.Params.{Params}
-use Rattle.model_params.specs.Quantities.{IsWithin, screening_length}
-use Rattle.model_params.specs.Params.{AreInRange}
+use Rattle.model_params.specs.Quantities.{IsInRangeOf, screening_length}
+use Rattle.model_params.specs.Params.{AreParamsInRange}
 use Rattle.screened_coulomb.specs.Potential.{HoldsOrder}
 use Rattle.screened_coulomb.specs.Rounding.{IsRoundedSpan}
 
 -- usual parameters with any screening length
-pub usual_in_range : (lam : ℤ) → IsWithin screening_length lam → AreInRange (pos 14399645) (pos 56000) lam (pos 320000000000) (pos 590000000000) 3
+pub usual_in_range : (lam : ℤ) → IsInRangeOf screening_length lam → AreParamsInRange (pos 14399645) (pos 56000) lam (pos 320000000000) (pos 590000000000) 3
 usual_in_range lam within = record {
   coulomb_within = record { from = omega (arith, ints); to = omega (arith, ints) };
   eps_within = record { from = omega (arith, ints); to = omega (arith, ints) };
@@ -21,7 +21,7 @@ usual_in_range lam within = record {
 }
 
 -- the usual parameters with this screening length
-abbrev pub with_lam : (lam : ℤ) → IsWithin screening_length lam → Params
+abbrev pub with_lam : (lam : ℤ) → IsInRangeOf screening_length lam → Params
 with_lam lam within = record {
   coulomb = pos 14399645;
   eps = pos 56000;

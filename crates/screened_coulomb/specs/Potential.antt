@@ -2,7 +2,7 @@
 use Rattle.std.specs.Prelude.{ℕ, suc, ◌+◌, ◌*◌, ◌^◌, ◌≤◌, ℤ, pos, ◌*ℤ◌, ◌≤ℤ◌, unsigned_abs, nat_lt, if◌then◌else◌}
 use Rattle.root_exp.specs.declared.TheConstants.{ORDER}
 use Rattle.root_exp.specs.Root.{IsRoot}
-use Rattle.root_exp.specs.Series.{closed_divisor, closed_sum, divisor_of, series_sum}
+use Rattle.root_exp.specs.Series.{closed_divisor, closed_sum, divisor_of, series_sum, Fraction}
 use Rattle.model_params.specs.declared.params.Params.{Params}
 
 -- K·10^12, K being in 10^-6 V·Å
@@ -16,11 +16,6 @@ eps_of p = unsigned_abs p.eps
 -- lam, in 10^-4 nm
 abbrev pub lam_of : Params → ℕ
 lam_of p = unsigned_abs p.lam
-
--- a fraction of whole numbers
-pub record Fraction : Type 0 where
-  pub top : ℕ
-  pub bottom : ℕ
 
 -- the number is at most the fraction
 abbrev pub IsAtMost : ℤ → Fraction → Type 0

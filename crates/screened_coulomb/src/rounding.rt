@@ -3,7 +3,7 @@ ghost use Rattle.std.specs.Prelude.{◌≡◌, ℕ, pos, ◌*◌, ◌^◌, unsig
 ghost use Rattle.root_exp.specs.Root.{IsRoot};
 ghost use Rattle.root_exp.specs.Series.{AreSized};
 ghost use Rattle.screened_coulomb.specs.Potential.{HoldsDistance};
-ghost use Rattle.screened_coulomb.specs.Rounding.{argument_down_of, argument_up_of, far, far_ends, hi_of, lo_of, near_ends, quotient_down_of, quotient_up_of, rounded_ends};
+ghost use Rattle.screened_coulomb.specs.Rounding.{argument_down_of, argument_up_of, far_from, far_ends, rounded_hi, rounded_lo, near_ends, quotient_down_of, quotient_up_of, rounded_ends};
 
 use crate::{Params, Span};
 use charge_model::MAX_POTENTIAL;
@@ -73,7 +73,7 @@ fn whole(parameter: i64) -> u128
 fn lower_end(quotient: u128, sums: Sums) -> u128
     requires quotient { quotient ≤ MAX_END * 2 ^ 23 }
     requires sums { AreSized sums.f sums.down sums.up }
-    ensures value { result ≡ lo_of quotient sums.f sums.up }
+    ensures value { result ≡ rounded_lo quotient sums.f sums.up }
     ensures within { result ≤ MAX_END }
 {
     mul_div_down(quotient, 2u128.pow(sums.f), sums.up * END)
@@ -83,7 +83,7 @@ fn lower_end(quotient: u128, sums: Sums) -> u128
 fn upper_end(quotient: u128, sums: Sums) -> u128
     requires quotient { quotient ≤ MAX_END * 2 ^ 23 }
     requires sums { AreSized sums.f sums.down sums.up }
-    ensures value { result ≡ hi_of quotient sums.f sums.down }
+    ensures value { result ≡ rounded_hi quotient sums.f sums.down }
     ensures within { result ≤ MAX_END }
 {
     mul_div_up(quotient, 2u128.pow(sums.f), sums.down * END)
@@ -92,7 +92,7 @@ fn upper_end(quotient: u128, sums: Sums) -> u128
 /// Whether the exponential of the argument is summed.
 fn is_near(p: &Params, root: u128) -> bool
     requires small { root < 2 ^ 64 }
-    ensures { IsTrue result ↔ (argument_down_of p.now root < far) }
+    ensures { IsTrue result ↔ (argument_down_of p.now root < far_from) }
 {
     argument_down(p, root) < FAR
 }
@@ -101,7 +101,7 @@ fn is_near(p: &Params, root: u128) -> bool
 fn near_span(p: &Params, root: u128) -> Span
     requires least { MIN_ROOT ≤ root }
     requires small { root < 2 ^ 64 }
-    requires near { argument_down_of p.now root < far }
+    requires near { argument_down_of p.now root < far_from }
     ensures lo { result.lo ≡ pos (near_ends p.now root).lo }
     ensures hi { result.hi ≡ pos (near_ends p.now root).hi }
     ensures holds { (d : ℕ) → IsRoot (d * 4 ^ 40) root
@@ -118,7 +118,7 @@ fn near_span(p: &Params, root: u128) -> Span
 fn far_span(p: &Params, root: u128) -> Span
     requires least { MIN_ROOT ≤ root }
     requires small { root < 2 ^ 64 }
-    requires far { far ≤ argument_down_of p.now root }
+    requires far { far_from ≤ argument_down_of p.now root }
     ensures lo { result.lo ≡ pos (far_ends p.now root).lo }
     ensures hi { result.hi ≡ pos (far_ends p.now root).hi }
     ensures holds { (d : ℕ) → IsRoot (d * 4 ^ 40) root

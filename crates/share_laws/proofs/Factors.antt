@@ -3,8 +3,8 @@ use Rattle.std.proofs.Common.{◌≡◌, ℕ, zero, suc, ◌*◌, ◌<◌, ◌�
 use Rattle.std.proofs.lemmas.Bool.{cases_lt}
 use Rattle.std.proofs.lemmas.Int.{ints}
 use Rattle.std.proofs.Math.Nat.{mul-le-mul, mul-le-mul_right}
-use Rattle.root_exp.specs.Series.{closed_divisor, closed_sum, divisor_of, series_sum}
-use Rattle.occupation.specs.Fractions.{Fraction, inverse}
+use Rattle.root_exp.specs.Series.{closed_divisor, closed_sum, divisor_of, series_sum, Fraction}
+use Rattle.occupation.specs.Fractions.{inverse}
 use Rattle.occupation.specs.Intervals.{closed_at, plus_finite, series_at, upper_factor, upper_total}
 use Rattle.occupation.proofs.FactorLemmas.{cancel, one_below}
 use Rattle.occupation.proofs.OrderLemmas.{ClosedIsGreater, closed_positive, divisor_positive}

@@ -8,8 +8,7 @@ use Rattle.std.proofs.Math.Nat.{one-le-pow, mul-le-mul, mul-le-mul_left, mul-le-
 use Rattle.charge_model.specs.declared.charge.Charge.{Charge}
 use Rattle.charge_model.specs.Problem.{Problem, Table, IsTable}
 use Rattle.charge_model.specs.Rules.{energy}
-use Rattle.root_exp.specs.Series.{divisor_of, series_sum}
-use Rattle.occupation.specs.Fractions.{Fraction}
+use Rattle.root_exp.specs.Series.{divisor_of, series_sum, Fraction}
 use Rattle.occupation.specs.Intervals.{differences, lower_factor, lower_total}
 use Rattle.occupation.proofs.FactorLemmas.{cancel}
 use Rattle.occupation.proofs.OrderLemmas.{ClosedIsGreater}

@@ -5,10 +5,11 @@ use Rattle.std.proofs.lemmas.Int.{ints}
 use Rattle.std.proofs.lemmas.List.Elements.{All-head, All-tail, All-contains_itself}
 use Rattle.std.proofs.Math.Nat.{mul-le-mul, mul-le-mul_left, div-mul-le_self}
 use Rattle.std.proofs.lemmas.Nat.{div-mul-add}
+use Rattle.root_exp.specs.Series.{Fraction}
 use Rattle.charge_model.specs.declared.charge.Charge.{Charge}
 use Rattle.charge_model.specs.Problem.{Problem, Table, IsTable}
 use Rattle.charge_model.specs.Rules.{energy}
-use Rattle.occupation.specs.Fractions.{Fraction, nothing, plus}
+use Rattle.occupation.specs.Fractions.{nothing, plus}
 use Rattle.occupation.specs.Intervals.{differences, inverse_finite, upper_factor, upper_total}
 use Rattle.occupation.proofs.OrderLemmas.{ClosedIsGreater}
 use Rattle.occupation.proofs.FractionLemmas.{ends_are_fractions}

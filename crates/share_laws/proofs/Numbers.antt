@@ -4,7 +4,7 @@ use Rattle.std.proofs.lemmas.Bool.{cases_lt}
 use Rattle.std.proofs.lemmas.Grind.{div_ceil_times}
 use Rattle.std.proofs.Math.Nat.{mul-le-mul, mul-le-mul_left, mul-le-mul_right}
 use Rattle.std.specs.Int.{div_ceil}
-use Rattle.occupation.specs.Fractions.{Fraction}
+use Rattle.root_exp.specs.Series.{Fraction}
 use Rattle.occupation.proofs.FactorLemmas.{cancel}
 
 -- so many times a fraction, rounded up; a great number for an infinite one

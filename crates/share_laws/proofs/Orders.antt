@@ -2,8 +2,8 @@
 use Rattle.std.proofs.Common.{◌≡◌, ℕ, zero, suc, ◌+◌, ◌*◌, ◌<◌, ◌≤◌, pos, negsuc, ◌⊎◌, inl, inr, nat_lt, if◌then◌else◌, arith}
 use Rattle.std.proofs.lemmas.Bool.{cases_lt}
 use Rattle.std.proofs.Math.Nat.{mul-le-mul_right}
-use Rattle.root_exp.specs.Series.{closed_divisor, closed_sum, divisor_of, series_sum}
-use Rattle.occupation.specs.Fractions.{Fraction, inverse, nothing}
+use Rattle.root_exp.specs.Series.{closed_divisor, closed_sum, divisor_of, series_sum, Fraction}
+use Rattle.occupation.specs.Fractions.{inverse, nothing}
 use Rattle.occupation.specs.Intervals.{closed_at, lower_factor}
 use Rattle.occupation.proofs.FactorLemmas.{cancel}
 use Rattle.occupation.proofs.OrderLemmas.{ClosedIsGreater, closed_positive, divisor_positive}

@@ -1,8 +1,9 @@
 -- the sums of the ends of the intervals of all entries of a list
 use Rattle.std.specs.Prelude.{ℕ, ◌≤◌, List, [], ◌∷◌, map}
+use Rattle.root_exp.specs.Series.{Fraction}
 use Rattle.charge_model.specs.declared.charge.Charge.{Charge}
 use Rattle.charge_model.specs.Problem.{Problem, Table}
-use Rattle.occupation.specs.Fractions.{Fraction, nothing, plus}
+use Rattle.occupation.specs.Fractions.{nothing, plus}
 use Rattle.occupation.specs.Intervals.{share_at_order}
 
 -- the sum of fractions

@@ -8,7 +8,7 @@ use mathlib.Core.Option.{some-injective}
 use Rattle.shared_board.specs.declared.view.View.{View}
 use Rattle.shared_board.specs.Core.{claim, enter, make, Allowed, opening_core, first_view}
 use Rattle.shared_board.specs.Rule.{Rule, IsPlan}
-use Rattle.shared_board.specs.Seating.{Ends}
+use Rattle.shared_board.specs.Seating.{EndsRound}
 use Rattle.shared_board.proofs.StandardFacts.{small_plan, last_view, last_core}
 
 no_limit : IsPlan (record small_plan { limit = 0 }) → ⊥
@@ -27,10 +27,10 @@ high_bound rule = let high = rule.high in omega (arith, ints, high)
 third_entered : Rule small_plan (record last_core { entered = 3 }) → ⊥
 third_entered rule = let count = rule.entered in omega (arith, count)
 
-above_published : Ends small_plan (last_view ∷ []) (record { bound = negsuc 3; entered = 2; claimed = 2 }) → ⊥
+above_published : EndsRound small_plan (last_view ∷ []) (record { bound = negsuc 3; entered = 2; claimed = 2 }) → ⊥
 above_published ends = let least = ends.at_most_each 0 last_view (negsuc 4) refl in let below = least (Contains-push [] (negsuc 4)) in omega (arith, ints, below)
 
-never_entered : Ends small_plan (last_view ∷ []) (record { bound = negsuc 4; entered = 1; claimed = 2 }) → ⊥
+never_entered : EndsRound small_plan (last_view ∷ []) (record { bound = negsuc 4; entered = 1; claimed = 2 }) → ⊥
 never_entered ends = let count = ends.entered in omega (arith, count)
 
 -- no entering before a look, none at what was seen, and no claim after there was no task

@@ -4,7 +4,7 @@ use Rattle.std.proofs.lemmas.Int.{ints}
 use Rattle.std.specs.Prelude.{pos, negsuc}
 use Rattle.shared_board.specs.declared.view.View.{View}
 use Rattle.shared_board.specs.declared.view.Plan.{Plan}
-use Rattle.shared_board.specs.Core.{Core, Event, make, claim, look, enter, publish, Runs, opening_core, first_view, view_at, after}
+use Rattle.shared_board.specs.Core.{Core, CoreEvent, make, claim, look, enter, publish, Runs, opening_core, first_view, view_at, after}
 use Rattle.shared_board.specs.Rule.{Rule, IsPlan}
 use Rattle.shared_board.specs.Words.{level, energy_of}
 use Rattle.shared_board.proofs.Runs.{opens, keeps_all}
@@ -24,7 +24,7 @@ small_is_plan = record {
 }
 
 -- the second entering is one too many, and so is the second claim
-abbrev pub steps : List Event
+abbrev pub steps : List CoreEvent
 steps = look 0 ∷ enter 0 (pos 0) ∷ look 0 ∷ enter 0 (pos 0) ∷ claim 0 ∷ claim 0 ∷ publish 0 (negsuc 4) ∷ look 0 ∷ []
 
 -- what the seat knows at the end

@@ -9,7 +9,7 @@ use Rattle.certificate_model.specs.declared.token.Token.TheVariants.{Node}
 use Rattle.tree_leaves.specs.Subtree.{nodes_under, nodes_beyond}
 use Rattle.walk_model.specs.Walks.{AreWalked}
 use Rattle.written_tokens.specs.Guiding.{Guiding, IsTokenAt}
-use Rattle.certificate_walk.specs.Walking.{IsWalkOf, AreWalksBelow, Follow}
+use Rattle.certificate_walk.specs.Walking.{IsWalkOf, AreWalksBelow, FollowToken}
 use Rattle.certificate_walk.proofs.Opening.{IsOnly, some_token, split, whole_walk, tokens_of}
 use Rattle.certificate_walk.proofs.Nodes.{prefix_push, few_third}
 use Rattle.shared_check.specs.Parts.{IsPart, ArePartsBelow, IsGuideOf}
@@ -57,7 +57,7 @@ module _ (g : Guiding) (q : List Charge) (part : IsPart g q) (room : length q < 
   pub parts_below : (token : Token) → IsOnly g q token → token ≡ Node → ArePartsBelow g q
   parts_below token only node =
       let s = split g q token only part.tokens part.walk in
-      walked_below s.0 (subst (λ t. part.tokens ≡ t ∷ s.0) node s.1) (subst (λ t. Follow g q t s.0) node s.2)
+      walked_below s.0 (subst (λ t. part.tokens ≡ t ∷ s.0) node s.1) (subst (λ t. FollowToken g q t s.0) node s.2)
 
 -- the whole tree is a part
 pub whole_part : (p : Problem) (window : ℤ) (o : Option ℤ) (l : List (List Charge)) (g : Guiding) (tokens : List Token) → IsGuideOf p window o l g → AreWalked p window o l tokens

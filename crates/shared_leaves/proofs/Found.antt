@@ -7,7 +7,7 @@ use Rattle.rayon.proofs.ToStd.{slice-AllZip}
 use Rattle.charge_model.specs.Problem.{Problem}
 use Rattle.charge_model.specs.Tree.{node_count}
 use Rattle.tree_leaves.specs.Leaves.{Leaves}
-use Rattle.tree_leaves.specs.Answer.{IsListed}
+use Rattle.tree_leaves.specs.Answer.{IsLeafList}
 use Rattle.tree_leaves.specs.Subtree.{AreLeavesUnder}
 use Rattle.tree_leaves.proofs.Counts.{count_root}
 use Rattle.tree_leaves.proofs.Branches.{IsTested, leaves_of_root}
@@ -78,7 +78,7 @@ module _ (p : Problem) (o : Option ℤ) (limit : ℕ) where
     over_parts parts found over = let same = found_nodes shares parts found in over_tree (omega (arith, over, same))
 
     -- and their leaves are its leaves
-    pub joined_tree : (parts : List Leaves) (l : Leaves) → IsTested p o → AllZip (AreFound p o) shares parts → IsJoined limit parts l → IsListed p o limit l
+    pub joined_tree : (parts : List Leaves) (l : Leaves) → IsTested p o → AllZip (AreFound p o) shares parts → IsJoined limit parts l → IsLeafList p o limit l
     joined_tree parts l tested found joined =
         let root = count_root p o in
         let nodes : l.nodes ≡ node_count p o = joined.nodes ∙ found_nodes shares parts found ∙ are.nodes ∙ root in

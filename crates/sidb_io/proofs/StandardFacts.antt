@@ -1,7 +1,7 @@
 -- calls worked by hand: three bytes that are given and taken by two
 use Rattle.std.proofs.Common.{◌≡◌, ℕ, List, [], ◌∷◌, refl, arith, Some, None, Ok, Err, inl, inr}
 use Rattle.sidb_io.specs.Memory.{Supply, Store, supply_after, store_after, Refuses}
-use Rattle.sidb_io.specs.Outside.{HasFault, FailsWith, GaveAll, Fills, IsCountAfter, Took, TookFront, TakesFrom, WritesFront, counted, faults_after, last_count}
+use Rattle.sidb_io.specs.Outside.{HasFault, FailsWith, GaveAll, Fills, IsCountAfter, Took, TookFront, TakesFrom, WritesFront, next_count, faults_after, last_count}
 use Rattle.sidb_io.specs.Whole.{IsCountAfterAll}
 use Rattle.sidb_io.specs.declared.read_whole.ReadAllFault.TheVariants.{ReadFault, TooLong}
 
@@ -44,7 +44,7 @@ stands_at_its_last = inr refl
 fails_once : FailsWith (Some three) (Some three) 4 5
 fails_once = record { counted_it = inl (omega arith); unchanged = refl }
 
-counted_stops : counted last_count ≡ last_count
+counted_stops : next_count last_count ≡ last_count
 counted_stops = refl
 
 -- a source of three bytes that gives two a call and fails at call 1

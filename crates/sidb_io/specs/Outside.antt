@@ -7,8 +7,8 @@ abbrev pub last_count : ℕ
 last_count = 2 ^ 64 - 1
 
 -- the count after one more, which stops at its last value
-abbrev pub counted : ℕ → ℕ
-counted n = min (n + 1) last_count
+abbrev pub next_count : ℕ → ℕ
+next_count n = min (n + 1) last_count
 
 -- a fault was counted, or the count stands at its last value
 abbrev pub HasFault : ℕ → ℕ → Type 0
@@ -17,7 +17,7 @@ HasFault old new = (old < new) ⊎ (new ≡ last_count)
 -- the count of faults after a call that answered this
 abbrev pub faults_after : {A E : Type 0} → ℕ → Result A E → ℕ
 faults_after faults (Ok a) = faults
-faults_after faults (Err e) = counted faults
+faults_after faults (Err e) = next_count faults
 
 -- the count of faults after a call that answered this: only a failed call may raise it
 abbrev pub IsCountAfter : {A E : Type 0} → ℕ → ℕ → Result A E → Type 0

@@ -8,7 +8,7 @@ use Rattle.sidb_layout.specs.declared.site.Site.{Site}
 use Rattle.sidb_layout.specs.declared.site.Fix.{Fix}
 use Rattle.sidb_layout.specs.declared.lattice.Lattice.{Lattice}
 use Rattle.sidb_layout.specs.Site.{IsInRange, IsRowBefore, place_at, places_of_fixes, origin}
-use Rattle.sidb_layout.specs.Lattice.{squared_distance, gap_of, x_of, y_of}
+use Rattle.sidb_layout.specs.Lattice.{squared_distance, distance_along, x_of, y_of}
 use Rattle.sidb_layout.specs.Layout.{Arrangement, IsLayout}
 use Rattle.sidb_lattice.specs.Classes.{pair_distance, near_distance}
 
@@ -44,7 +44,7 @@ near_apart p i a h i_within a_within =
     h.apart (place_at p.sites i) (place_at fixed a) (Contains-append_left p.sites fixed _ site) (Contains-append_right p.sites fixed _ fix)
     (λ e. h.no_fix_on_a_site (place_at fixed a) (rw e at site) fix)
 
-gap-turned : (p q : ℤ) → gap_of p q ≡ gap_of q p
+gap-turned : (p q : ℤ) → distance_along p q ≡ distance_along q p
 gap-turned p q = omega (arith, ints)
 
 pub squared_distance-turned : (v : Lattice) (a b : Site) → squared_distance v a b ≡ squared_distance v b a

@@ -5,7 +5,7 @@ use Rattle.std.proofs.Math.Nat.{mul-le-mul_right}
 use Rattle.sidb_layout.specs.declared.site.Site.{Site}
 use Rattle.sidb_layout.specs.declared.lattice.Lattice.{Lattice}
 use Rattle.sidb_layout.specs.Site.{IsInRange}
-use Rattle.sidb_layout.specs.Lattice.{squared_distance, gap_of, x_of, y_of}
+use Rattle.sidb_layout.specs.Lattice.{squared_distance, distance_along, x_of, y_of}
 
 -- the size of a product, by a bound on the first factor
 size-mul : (a b : ℤ) (most : ℕ) → unsigned_abs a ≤ most → unsigned_abs (a *ℤ b) ≤ most * unsigned_abs b
@@ -29,8 +29,8 @@ position_within s a b c h steps offset =
     omega (arith, size-sum (s.n *ℤ a) (s.m *ℤ b) (s.l *ℤ c), column, row, atom, steps, offset)
 
 -- the square of the gap between two positions
-square_within : (p q : ℤ) → unsigned_abs p ≤ 4000400 → unsigned_abs q ≤ 4000400 → gap_of p q * gap_of p q ≤ 64012800640000
-square_within p q h k = square (gap_of p q) (omega (arith, ints, h, k))
+square_within : (p q : ℤ) → unsigned_abs p ≤ 4000400 → unsigned_abs q ≤ 4000400 → distance_along p q * distance_along p q ≤ 64012800640000
+square_within p q h k = square (distance_along p q) (omega (arith, ints, h, k))
   where
     square : (gap : ℕ) → gap ≤ 8000800 → gap * gap ≤ 64012800640000
     square gap h = let once = mul-le-mul_right gap h in omega (arith, once, h)

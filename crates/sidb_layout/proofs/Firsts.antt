@@ -7,7 +7,7 @@ use Rattle.std.proofs.lemmas.List.Elements.{All-head, All-tail}
 use Rattle.sidb_layout.specs.declared.site.Site.{Site}
 use Rattle.sidb_layout.specs.declared.site.Fix.{Fix}
 use Rattle.sidb_layout.specs.Site.{IsInRange, IsFixInRange, origin}
-use Rattle.sidb_layout.specs.Refusal.{IsFirstOutside, IsFirstOutOfRange, IsFirstPair, AreInRange, AreDistinct}
+use Rattle.sidb_layout.specs.Refusal.{IsFirstOutside, IsFirstOutOfRange, IsFirstPair, ArePlacesInRange, AreDistinct}
 use Rattle.sidb_layout.specs.Clash.{HasNoPair}
 
 -- an element below j has P where all below j have it
@@ -43,7 +43,7 @@ one_out_of_range sites fixes i j (inr (a, e, all, f)) (inr (b, e', all', g)) =
     omega (arith, one_first_outside IsFixInRange fixes a b f g)
 
 pub in_range_excludes : (sites : List Site) (fixes : List Fix) (i : ℕ)
-    → AreInRange sites fixes → IsFirstOutOfRange sites fixes i → ⊥
+    → ArePlacesInRange sites fixes → IsFirstOutOfRange sites fixes i → ⊥
 in_range_excludes sites fixes i all (inl f) = not_outside IsInRange sites i all.all_sites f.outside
 in_range_excludes sites fixes i all (inr (a, e, sites_in, f)) = not_outside IsFixInRange fixes a all.all_fixes f.outside
 

@@ -10,15 +10,15 @@ use Rattle.sidb_layout.specs.declared.site.Site.{Site}
 use Rattle.sidb_layout.specs.declared.site.Fix.{Fix}
 use Rattle.sidb_layout.specs.declared.lattice.Lattice.{Lattice}
 use Rattle.sidb_layout.specs.Site.{IsInRange, IsFixInRange, row_cmp, places_of, places_of_fixes, place_at, origin}
-use Rattle.sidb_layout.specs.Lattice.{squared_distance, gap_of, x_of, y_of}
+use Rattle.sidb_layout.specs.Lattice.{squared_distance, distance_along, x_of, y_of}
 use Rattle.sidb_layout.specs.Layout.{IsLayout, AreApart, arrangement_of}
 use Rattle.sidb_layout.specs.Refusal.{AreDistinct, IsTooClose}
-use Rattle.sidb_layout.specs.Clash.{AreFine, HasNoPair}
+use Rattle.sidb_layout.specs.Clash.{AreFinePlaces, HasNoPair}
 use Rattle.sidb_layout.proofs.Firsts.{at_each_default}
 use Rattle.sidb_layout.proofs.RowOrder.{in_row_order, fixes_in_row_order}
 use Rattle.sidb_layout.proofs.Permuted.{distinct_permuted}
 
-gap-turned : (p q : ℤ) → gap_of p q ≡ gap_of q p
+gap-turned : (p q : ℤ) → distance_along p q ≡ distance_along q p
 gap-turned p q = omega (arith, ints)
 
 pub squared_distance-turned : (v : Lattice) (a b : Site) → squared_distance v a b ≡ squared_distance v b a
@@ -63,7 +63,7 @@ separate xs ys distinct s (i, i_within, at_i) (j, j_within, at_j) =
     distinct i (length xs + j) s (omega arith) (omega (arith, length-append xs ys))
     (get_or_append_left xs ys s i i_within ∙ (at_i ∙ sym (get_or-append-add xs ys j s ∙ at_j)))
 
-pub is_made : (v : Lattice) (sites own_sites : List Site) (fixes own_fixes : List Fix) → AreFine v sites fixes
+pub is_made : (v : Lattice) (sites own_sites : List Site) (fixes own_fixes : List Fix) → AreFinePlaces v sites fixes
     → IsPermutation sites own_sites → IsPermutation fixes own_fixes → IsSorted row_cmp own_sites
     → IsSortedByKey (λ (f : Fix). f.site) row_cmp own_fixes → IsLayout (arrangement_of v own_sites own_fixes)
 is_made v sites own_sites fixes own_fixes fine sites_moved fixes_moved sites_sorted fixes_sorted =

@@ -6,15 +6,15 @@ use Rattle.sidb_layout.specs.declared.lattice.Lattice.{Lattice}
 use Rattle.sidb_layout.specs.declared.fault.LayoutFault.{LayoutFault}
 use Rattle.sidb_layout.specs.declared.fault.LayoutFault.TheVariants.{OutOfRange, TooMany, TooManyFixes, Duplicate, TooClose, Memory}
 use Rattle.sidb_layout.specs.Site.{places_of}
-use Rattle.sidb_layout.specs.Refusal.{IsRefusal, IsTooClose}
-use Rattle.sidb_layout.specs.Clash.{AreFine}
+use Rattle.sidb_layout.specs.Refusal.{IsLayoutRefusal, IsTooClose}
+use Rattle.sidb_layout.specs.Clash.{AreFinePlaces}
 use Rattle.sidb_layout.proofs.Firsts.{one_out_of_range, one_first_pair, in_range_excludes, distinct_excludes, no_pair_excludes, IsSamePair}
 
 same_pair : {X : Type 0} (make : ℕ → ℕ → X) (i j k m : ℕ) → IsSamePair i j k m → make i j ≡ make k m
 same_pair make i j k m same = rw (same.earlier, same.later) refl
 
 pub one_refusal : (v : Lattice) (sites : List Site) (fixes : List Fix) (f g : LayoutFault)
-    → IsRefusal v sites fixes f → IsRefusal v sites fixes g → f ≡ g
+    → IsLayoutRefusal v sites fixes f → IsLayoutRefusal v sites fixes g → f ≡ g
 one_refusal v ss fs Memory g h k = absurd h
 one_refusal v ss fs f Memory h k = absurd k
 one_refusal v ss fs (OutOfRange i) (OutOfRange j) h k = ap OutOfRange (one_out_of_range ss fs i j h k)
@@ -46,7 +46,7 @@ one_refusal v ss fs (TooClose i j) (TooClose a b) h k =
     same_pair TooClose i j a b (one_first_pair (IsTooClose v) (places_of ss fs) i j a b h.2 k.2)
 
 pub fine_is_not_refused : (v : Lattice) (sites : List Site) (fixes : List Fix) (f : LayoutFault)
-    → AreFine v sites fixes → IsRefusal v sites fixes f → ⊥
+    → AreFinePlaces v sites fixes → IsLayoutRefusal v sites fixes f → ⊥
 fine_is_not_refused v ss fs (OutOfRange i) fine h = in_range_excludes ss fs i fine.few.in_range h
 fine_is_not_refused v ss fs TooMany fine h = omega (arith, h.1, fine.few.few_sites)
 fine_is_not_refused v ss fs TooManyFixes fine h = omega (arith, h.2, fine.few.few_fixes)
@@ -56,10 +56,10 @@ fine_is_not_refused v ss fs Memory fine h = h
 
 -- the answer with a refusal is the answer with each refusal that holds
 pub refused_exactly : {T : Type 0} (v : Lattice) (sites : List Site) (fixes : List Fix) (f : LayoutFault)
-    → IsRefusal v sites fixes f → (fault : LayoutFault) → fault ≢ Memory
-    → ((let answer : Result T LayoutFault = Err f in answer ≡ Err fault) ↔ IsRefusal v sites fixes fault)
+    → IsLayoutRefusal v sites fixes f → (fault : LayoutFault) → fault ≢ Memory
+    → ((let answer : Result T LayoutFault = Err f in answer ≡ Err fault) ↔ IsLayoutRefusal v sites fixes fault)
 refused_exactly {T} v ss fs f h fault ne = (
-  (λ e. subst (IsRefusal v ss fs) (fault_of e) h),
+  (λ e. subst (IsLayoutRefusal v ss fs) (fault_of e) h),
   λ k. ap (λ (g : LayoutFault). let answer : Result T LayoutFault = Err g in answer) (one_refusal v ss fs f fault h k),
 )
   where
@@ -68,7 +68,7 @@ refused_exactly {T} v ss fs f h fault ne = (
 
 -- no other answer is one with a refusal
 pub fine_exactly : {T : Type 0} (v : Lattice) (sites : List Site) (fixes : List Fix) (answer : Result T LayoutFault)
-    → AreFine v sites fixes → ((f : LayoutFault) → f ≢ Memory → answer ≢ Err f)
-    → (fault : LayoutFault) → fault ≢ Memory → ((answer ≡ Err fault) ↔ IsRefusal v sites fixes fault)
+    → AreFinePlaces v sites fixes → ((f : LayoutFault) → f ≢ Memory → answer ≢ Err f)
+    → (fault : LayoutFault) → fault ≢ Memory → ((answer ≡ Err fault) ↔ IsLayoutRefusal v sites fixes fault)
 fine_exactly v ss fs answer fine other fault ne =
     ((λ e. absurd (other fault ne e)), λ k. absurd (fine_is_not_refused v ss fs fault fine k))

@@ -7,7 +7,7 @@ use Rattle.sidb_layout.specs.declared.fault.LayoutFault.TheVariants.{TooMany, To
 use Rattle.sidb_layout.specs.Site.{IsInRange, IsFixInRange, IsInRowOrder, IsRowBefore}
 use Rattle.sidb_layout.specs.Lattice.{AreVectors, silicon}
 use Rattle.sidb_layout.specs.Layout.{IsLayout, arrangement_of}
-use Rattle.sidb_layout.specs.Refusal.{IsRefusal, IsMadeOf}
+use Rattle.sidb_layout.specs.Refusal.{IsLayoutRefusal, IsMadeOf}
 use Rattle.sidb_layout.proofs.StandardFacts.{at, first, second, charge, square_lattice, one_position}
 
 -- a column, a row and an atom out of range
@@ -69,12 +69,12 @@ pub refuses_lattice : IsMadeOf silicon [] [] (arrangement_of square_lattice [] [
 refuses_lattice h = let x : pos 300 ≡ pos 384 = ap (λ (v : Lattice). v.ax) h.on_lattice in omega (arith, ints, x)
 
 -- a duplicate that is none, and a close pair on the default lattice
-pub refuses_no_duplicate : IsRefusal silicon (first ∷ second ∷ []) [] (Duplicate 0 1) → ⊥
+pub refuses_no_duplicate : IsLayoutRefusal silicon (first ∷ second ∷ []) [] (Duplicate 0 1) → ⊥
 refuses_no_duplicate h =
     let n : pos 0 ≡ pos 1 = ap (λ (s : Site). s.n) h.1.earliest.related in omega (arith, ints, n)
 
-pub refuses_few_as_many : IsRefusal silicon (first ∷ []) [] TooMany → ⊥
+pub refuses_few_as_many : IsLayoutRefusal silicon (first ∷ []) [] TooMany → ⊥
 refuses_few_as_many h = omega (arith, h.1)
 
-pub refuses_few_fixes_as_many : IsRefusal silicon [] (charge ∷ []) TooManyFixes → ⊥
+pub refuses_few_fixes_as_many : IsLayoutRefusal silicon [] (charge ∷ []) TooManyFixes → ⊥
 refuses_few_fixes_as_many h = omega (arith, h.2)

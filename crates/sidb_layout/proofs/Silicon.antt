@@ -11,8 +11,8 @@ use Rattle.sidb_layout.specs.declared.site.Site.{Site}
 use Rattle.sidb_layout.specs.declared.site.Fix.{Fix}
 use Rattle.sidb_layout.specs.declared.fault.LayoutFault.TheVariants.{TooClose}
 use Rattle.sidb_layout.specs.Site.{IsInRange, places_of, places_of_fixes, origin}
-use Rattle.sidb_layout.specs.Lattice.{silicon, squared_distance, gap_of, x_of, y_of}
-use Rattle.sidb_layout.specs.Refusal.{IsRefusal, AreInRange}
+use Rattle.sidb_layout.specs.Lattice.{silicon, squared_distance, distance_along, x_of, y_of}
+use Rattle.sidb_layout.specs.Refusal.{IsLayoutRefusal, ArePlacesInRange}
 use Rattle.sidb_layout.proofs.RowOrder.{same_site}
 use Rattle.sidb_layout.proofs.Made.{squared_distance-turned}
 
@@ -20,22 +20,22 @@ square_at_least : (gap : ℕ) → 225 ≤ gap → 50625 ≤ gap * gap
 square_at_least gap h = omega (arith, mul-le-mul_right gap h, h)
 
 -- a step along a row, and one from row to row, is long enough
-columns_apart : (a b : Site) → a.n <ℤ b.n → 225 ≤ gap_of (x_of silicon a) (x_of silicon b)
+columns_apart : (a b : Site) → a.n <ℤ b.n → 225 ≤ distance_along (x_of silicon a) (x_of silicon b)
 columns_apart a b h = omega (arith, ints)
 
-rows_apart : (a b : Site) → IsInRange a → IsInRange b → a.m <ℤ b.m → 225 ≤ gap_of (y_of silicon a) (y_of silicon b)
+rows_apart : (a b : Site) → IsInRange a → IsInRange b → a.m <ℤ b.m → 225 ≤ distance_along (y_of silicon a) (y_of silicon b)
 rows_apart a b ha hb h = by ha.atom hb.atom
   where
-    by : (a.l ≡ pos 0) ⊎ (a.l ≡ pos 1) → (b.l ≡ pos 0) ⊎ (b.l ≡ pos 1) → 225 ≤ gap_of (y_of silicon a) (y_of silicon b)
+    by : (a.l ≡ pos 0) ⊎ (a.l ≡ pos 1) → (b.l ≡ pos 0) ⊎ (b.l ≡ pos 1) → 225 ≤ distance_along (y_of silicon a) (y_of silicon b)
     by (inl p) (inl q) = omega (arith, ints, p, q)
     by (inl p) (inr q) = omega (arith, ints, p, q)
     by (inr p) (inl q) = omega (arith, ints, p, q)
     by (inr p) (inr q) = omega (arith, ints, p, q)
 
-atoms_apart : (a b : Site) → IsInRange a → IsInRange b → a.m ≡ b.m → a.l ≢ b.l → 225 ≤ gap_of (y_of silicon a) (y_of silicon b)
+atoms_apart : (a b : Site) → IsInRange a → IsInRange b → a.m ≡ b.m → a.l ≢ b.l → 225 ≤ distance_along (y_of silicon a) (y_of silicon b)
 atoms_apart a b ha hb m ne = by ha.atom hb.atom
   where
-    by : (a.l ≡ pos 0) ⊎ (a.l ≡ pos 1) → (b.l ≡ pos 0) ⊎ (b.l ≡ pos 1) → 225 ≤ gap_of (y_of silicon a) (y_of silicon b)
+    by : (a.l ≡ pos 0) ⊎ (a.l ≡ pos 1) → (b.l ≡ pos 0) ⊎ (b.l ≡ pos 1) → 225 ≤ distance_along (y_of silicon a) (y_of silicon b)
     by (inl p) (inl q) = absurd (ne (rw (p, q) refl))
     by (inl p) (inr q) = omega (arith, ints, p, q, m)
     by (inr p) (inl q) = omega (arith, ints, p, q, m)
@@ -45,7 +45,7 @@ by_columns : (a b : Site) → a.n <ℤ b.n → 50625 ≤ squared_distance silico
 unfolding squared_distance
 by_columns a b h = omega (arith, square_at_least _ (columns_apart a b h))
 
-by_lines : (a b : Site) → 225 ≤ gap_of (y_of silicon a) (y_of silicon b) → 50625 ≤ squared_distance silicon a b
+by_lines : (a b : Site) → 225 ≤ distance_along (y_of silicon a) (y_of silicon b) → 50625 ≤ squared_distance silicon a b
 unfolding squared_distance
 by_lines a b h = omega (arith, square_at_least _ h)
 
@@ -68,12 +68,12 @@ roomy a b ha hb ne = by (int_cmp a.n b.n) (int_cmp a.m b.m) (int_cmp a.l b.l) re
     by Equal Equal Equal en em el = absurd (ne (same_site a b (int_ranked a.m b.m Equal em) (int_ranked a.l b.l Equal el) (int_ranked a.n b.n Equal en)))
 
 -- all places, of sites and of fixed charges, are in range
-pub places_in_range : (sites : List Site) (fixes : List Fix) → AreInRange sites fixes → All IsInRange (places_of sites fixes)
+pub places_in_range : (sites : List Site) (fixes : List Fix) → ArePlacesInRange sites fixes → All IsInRange (places_of sites fixes)
 places_in_range sites fixes h =
     All-append IsInRange sites (places_of_fixes fixes) h.all_sites
     (All-map IsInRange (λ (f : Fix). f.site) fixes (λ k d within. (h.all_fixes k d within).place))
 
-pub never_too_close : (sites : List Site) (fixes : List Fix) (i j : ℕ) → IsRefusal silicon sites fixes (TooClose i j) → ⊥
+pub never_too_close : (sites : List Site) (fixes : List Fix) (i j : ℕ) → IsLayoutRefusal silicon sites fixes (TooClose i j) → ⊥
 never_too_close sites fixes i j h =
     let pair = h.2 in
     let all = places_in_range sites fixes h.0.in_range in

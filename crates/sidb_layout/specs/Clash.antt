@@ -23,7 +23,7 @@ HasNoPair R places = (k m : ℕ) → k < m → m < length places
     → ¬ R (place_at places k) (place_at places m)
 
 -- places and fixed charges that are not refused
-pub record AreFine (v : Lattice) (sites : List Site) (fixes : List Fix) : Type 0 where
+pub record AreFinePlaces (v : Lattice) (sites : List Site) (fixes : List Fix) : Type 0 where
   pub few : AreFew sites fixes
   pub distinct : HasNoPair (λ a b. a ≡ b) (places_of sites fixes)
   pub apart : HasNoPair (IsTooClose v) (places_of sites fixes)

@@ -45,11 +45,11 @@ abbrev pub y_of : Lattice → Site → ℤ
 y_of v s = ((s.n *ℤ v.ay) +ℤ (s.m *ℤ v.by)) +ℤ (s.l *ℤ v.cy)
 
 -- how far apart two positions along one direction are
-abbrev pub gap_of : ℤ → ℤ → ℕ
-gap_of p q = unsigned_abs (p -ℤ q)
+abbrev pub distance_along : ℤ → ℤ → ℕ
+distance_along p q = unsigned_abs (p -ℤ q)
 
 -- the squared distance of two places: the sum of the squares of the two differences
 unfoldable pub squared_distance : Lattice → Site → Site → ℕ
 squared_distance v a b =
-    gap_of (x_of v a) (x_of v b) * gap_of (x_of v a) (x_of v b)
-    + gap_of (y_of v a) (y_of v b) * gap_of (y_of v a) (y_of v b)
+    distance_along (x_of v a) (x_of v b) * distance_along (x_of v a) (x_of v b)
+    + distance_along (y_of v a) (y_of v b) * distance_along (y_of v a) (y_of v b)

@@ -38,13 +38,13 @@ abbrev pub IsTooClose : Lattice → Site → Site → Type 0
 IsTooClose lattice a b = squared_distance lattice a b < LEAST_SQUARED_DISTANCE
 
 -- all places and charges are in range
-pub record AreInRange (sites : List Site) (fixes : List Fix) : Type 0 where
+pub record ArePlacesInRange (sites : List Site) (fixes : List Fix) : Type 0 where
   pub all_sites : All IsInRange sites
   pub all_fixes : All IsFixInRange fixes
 
 -- and there are few enough of both
 pub record AreFew (sites : List Site) (fixes : List Fix) : Type 0 where
-  pub in_range : AreInRange sites fixes
+  pub in_range : ArePlacesInRange sites fixes
   pub few_sites : length sites ≤ MAX_SITES
   pub few_fixes : length fixes ≤ MAX_FIXED
 
@@ -53,16 +53,17 @@ abbrev pub AreDistinct : List Site → Type 0
 AreDistinct places = AllPairs (λ a b. a ≢ b) places
 
 -- the refusals, in their order: each says that none before it comes
-abbrev pub IsRefusal : Lattice → List Site → List Fix → LayoutFault → Type 0
-IsRefusal v sites fixes (OutOfRange i) = IsFirstOutOfRange sites fixes i
-IsRefusal v sites fixes TooMany = AreInRange sites fixes × (MAX_SITES < length sites)
-IsRefusal v sites fixes TooManyFixes =
-    AreInRange sites fixes × (length sites ≤ MAX_SITES) × (MAX_FIXED < length fixes)
-IsRefusal v sites fixes (Duplicate i j) =
+abbrev pub IsLayoutRefusal : Lattice → List Site → List Fix → LayoutFault → Type 0
+IsLayoutRefusal v sites fixes (OutOfRange i) = IsFirstOutOfRange sites fixes i
+IsLayoutRefusal v sites fixes TooMany = ArePlacesInRange sites fixes × (MAX_SITES < length sites)
+IsLayoutRefusal v sites fixes TooManyFixes =
+    ArePlacesInRange sites fixes × (length sites ≤ MAX_SITES) × (MAX_FIXED < length fixes)
+IsLayoutRefusal v sites fixes (Duplicate i j) =
     AreFew sites fixes × IsFirstPair (λ a b. a ≡ b) (places_of sites fixes) i j
-IsRefusal v sites fixes (TooClose i j) = AreFew sites fixes × AreDistinct (places_of sites fixes)
+IsLayoutRefusal v sites fixes (TooClose i j) = AreFew sites fixes
+    × AreDistinct (places_of sites fixes)
     × IsFirstPair (IsTooClose v) (places_of sites fixes) i j
-IsRefusal v sites fixes Memory = ⊥
+IsLayoutRefusal v sites fixes Memory = ⊥
 
 -- a layout on this lattice that holds exactly these sites and fixed charges
 pub record IsMadeOf (v : Lattice) (sites : List Site) (fixes : List Fix) (p : Arrangement)

@@ -1,8 +1,8 @@
 // The first refusal of places and fixed charges.
 ghost use Rattle.std.specs.Prelude.{◌≡◌, ◌+◌, ◌<◌, ◌≤◌, ◌↔◌, length, IsTrue, All, MatchOption};
 ghost use Rattle.sidb_layout.specs.Site.{IsInRange, IsFixInRange, place_at, places_of};
-ghost use Rattle.sidb_layout.specs.Refusal.{IsFirstOutside, IsFirstOutOfRange, IsEarliest, IsFirstPair, AreInRange, IsRefusal};
-ghost use Rattle.sidb_layout.specs.Clash.{Clashes, NoneBefore, HasNoPair, AreFine};
+ghost use Rattle.sidb_layout.specs.Refusal.{IsFirstOutside, IsFirstOutOfRange, IsEarliest, IsFirstPair, ArePlacesInRange, IsLayoutRefusal};
+ghost use Rattle.sidb_layout.specs.Clash.{Clashes, NoneBefore, HasNoPair, AreFinePlaces};
 
 use crate::{Fix, LEAST_SQUARED_DISTANCE, Lattice, LayoutFault, Site, squared_distance_on};
 use sidb_units::{MAX_FIXED, MAX_SITES};
@@ -41,7 +41,7 @@ fn first_fix_out(fixes: &[Fix]) -> Option<usize>
 
 /// The first place out of range, counted through the sites and then the fixed charges.
 fn first_out(sites: &[Site], fixes: &[Fix]) -> Option<usize>
-    ensures { MatchOption result (AreInRange sites.now fixes.now)
+    ensures { MatchOption result (ArePlacesInRange sites.now fixes.now)
         (IsFirstOutOfRange sites.now fixes.now) }
 {
     if let Some(i) = first_site_out(sites) {
@@ -55,7 +55,7 @@ fn first_out(sites: &[Site], fixes: &[Fix]) -> Option<usize>
 
 /// The place that stands here, counted through the sites and then the fixed charges.
 fn place_of(sites: &[Site], fixes: &[Fix], k: usize) -> Site
-    requires ranges { AreInRange sites.now fixes.now }
+    requires ranges { ArePlacesInRange sites.now fixes.now }
     requires within { k < length sites.now + length fixes.now }
     ensures value { result ≡ place_at (places_of sites.now fixes.now) k }
     ensures in_range { IsInRange result }
@@ -83,7 +83,7 @@ fn clashes(clash: Clash, a: Site, b: Site) -> bool
 
 /// The earliest place before place `j` that clashes with it.
 fn earliest_before(clash: Clash, sites: &[Site], fixes: &[Fix], j: usize) -> Option<usize>
-    requires ranges { AreInRange sites.now fixes.now }
+    requires ranges { ArePlacesInRange sites.now fixes.now }
     requires within { j < length sites.now + length fixes.now }
     ensures { MatchOption result (NoneBefore (Clashes clash) (places_of sites.now fixes.now) j)
         (λ i. IsEarliest (Clashes clash) (places_of sites.now fixes.now) i j) }
@@ -99,7 +99,7 @@ fn earliest_before(clash: Clash, sites: &[Site], fixes: &[Fix], j: usize) -> Opt
 
 /// The first place that clashes with an earlier one, behind the earliest that it clashes with.
 fn first_pair(clash: Clash, sites: &[Site], fixes: &[Fix]) -> Option<(usize, usize)>
-    requires ranges { AreInRange sites.now fixes.now }
+    requires ranges { ArePlacesInRange sites.now fixes.now }
     requires few { length sites.now + length fixes.now ≤ 72 }
     ensures { MatchOption result (HasNoPair (Clashes clash) (places_of sites.now fixes.now))
         (λ pair. IsFirstPair (Clashes clash) (places_of sites.now fixes.now) pair.0 pair.1) }
@@ -114,8 +114,8 @@ fn first_pair(clash: Clash, sites: &[Site], fixes: &[Fix]) -> Option<(usize, usi
 
 /// The refusal of these places and fixed charges on this lattice.
 pub(crate) fn fault_of(lattice: Lattice, sites: &[Site], fixes: &[Fix]) -> Option<LayoutFault>
-    ensures { MatchOption result (AreFine lattice sites.now fixes.now)
-        (IsRefusal lattice sites.now fixes.now) }
+    ensures { MatchOption result (AreFinePlaces lattice sites.now fixes.now)
+        (IsLayoutRefusal lattice sites.now fixes.now) }
 {
     if let Some(i) = first_out(sites, fixes) {
         return Some(LayoutFault::OutOfRange(i));

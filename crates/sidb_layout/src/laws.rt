@@ -7,7 +7,7 @@ ghost use Rattle.sidb_layout.specs.Site.{IsInRange, place_at};
 ghost use Rattle.sidb_layout.specs.Lattice.{silicon, squared_distance};
 ghost use Rattle.sidb_layout.specs.Layout.{Arrangement};
 ghost use Rattle.sidb_layout.specs.Dropping.{sites_but};
-ghost use Rattle.sidb_layout.specs.Refusal.{IsMadeOf, IsRefusal};
+ghost use Rattle.sidb_layout.specs.Refusal.{IsMadeOf, IsLayoutRefusal};
 
 use crate::LEAST_SQUARED_DISTANCE;
 
@@ -27,7 +27,7 @@ pub fn distances_have_no_direction()
 #[tactic(auto, using(crate::proofs::OneRefusal::one_refusal))]
 pub fn one_refusal()
     ensures { (v : Lattice) (sites : List Site) (fixes : List Fix) (f g : LayoutFault)
-        → IsRefusal v sites fixes f → IsRefusal v sites fixes g → f ≡ g }
+        → IsLayoutRefusal v sites fixes f → IsLayoutRefusal v sites fixes g → f ≡ g }
 {}
 
 /// The same places and fixed charges make one layout.

@@ -2,8 +2,8 @@
 ghost use Rattle.std.specs.Prelude.{◌≡◌, ◌≢◌, ◌↔◌, ℕ, [], Err, IfOk};
 ghost use Rattle.sidb_layout.specs.declared.fault.LayoutFault.{LayoutFault};
 ghost use Rattle.sidb_layout.specs.Lattice.{silicon};
-ghost use Rattle.sidb_layout.specs.Refusal.{IsMadeOf, IsRefusal};
-ghost use Rattle.sidb_layout.specs.Clash.{AreFine};
+ghost use Rattle.sidb_layout.specs.Refusal.{IsMadeOf, IsLayoutRefusal};
+ghost use Rattle.sidb_layout.specs.Clash.{AreFinePlaces};
 
 use crate::faults::fault_of;
 use crate::{Fix, Lattice, Layout, LayoutFault, Site, default_lattice};
@@ -12,7 +12,7 @@ use std::alloc::Global;
 
 /// The layout of places that are not refused.
 fn made(alloc: Global, lattice: Lattice, sites: &[Site], fixes: &[Fix]) -> Result<Layout, Memory>
-    requires { AreFine lattice sites.now fixes.now }
+    requires { AreFinePlaces lattice sites.now fixes.now }
     ensures { IfOk result (IsMadeOf lattice sites.now fixes.now) }
 {
     let mut own_sites = Vec::from_slice(alloc, sites)?;
@@ -31,7 +31,7 @@ pub fn layout_on(
 ) -> Result<Layout, LayoutFault>
     ensures made { IfOk result (IsMadeOf lattice sites.now fixes.now) }
     ensures refused { (fault : LayoutFault) → fault ≢ LayoutFault.Memory
-        → ((result ≡ Err fault) ↔ IsRefusal lattice sites.now fixes.now fault) }
+        → ((result ≡ Err fault) ↔ IsLayoutRefusal lattice sites.now fixes.now fault) }
 {
     if let Some(fault) = fault_of(lattice, sites, fixes) {
         return Err(fault);
@@ -46,7 +46,7 @@ pub fn layout_on(
 pub fn layout_with(alloc: Global, sites: &[Site], fixes: &[Fix]) -> Result<Layout, LayoutFault>
     ensures made { IfOk result (IsMadeOf silicon sites.now fixes.now) }
     ensures refused { (fault : LayoutFault) → fault ≢ LayoutFault.Memory
-        → ((result ≡ Err fault) ↔ IsRefusal silicon sites.now fixes.now fault) }
+        → ((result ≡ Err fault) ↔ IsLayoutRefusal silicon sites.now fixes.now fault) }
     ensures never_too_close { (i j : ℕ) → result ≢ Err (LayoutFault.TooClose i j) }
 {
     layout_on(alloc, default_lattice(), sites, fixes)
@@ -56,7 +56,7 @@ pub fn layout_with(alloc: Global, sites: &[Site], fixes: &[Fix]) -> Result<Layou
 pub fn layout_of(alloc: Global, sites: &[Site]) -> Result<Layout, LayoutFault>
     ensures made { IfOk result (IsMadeOf silicon sites.now []) }
     ensures refused { (fault : LayoutFault) → fault ≢ LayoutFault.Memory
-        → ((result ≡ Err fault) ↔ IsRefusal silicon sites.now [] fault) }
+        → ((result ≡ Err fault) ↔ IsLayoutRefusal silicon sites.now [] fault) }
     ensures never_too_close { (i j : ℕ) → result ≢ Err (LayoutFault.TooClose i j) }
 {
     layout_with(alloc, sites, &[])

@@ -3,7 +3,7 @@ use Rattle.std.proofs.Common.{ℤ, pos, ◌≤ℤ◌, ◌<ℤ◌, Result, Ok, Er
 use Rattle.std.proofs.lemmas.Bool.{cases_lt}
 use Rattle.std.proofs.lemmas.Int.{ints}
 use Rattle.sidb_units.specs.Numeral.{CanGoOn, IsFirstBad, IsNumeral}
-use Rattle.sidb_units.specs.Decimal.{HasFault, HasTooMany, IsOutside, IsReadAs, places_of, value_of}
+use Rattle.sidb_units.specs.Decimal.{HasDecimalFault, HasTooMany, IsOutside, IsReadAs, places_after_point, decimal_value}
 use Rattle.sidb_units.specs.declared.decimal_fault.DecFault.{DecFault}
 use Rattle.sidb_units.specs.declared.decimal_fault.DecFault.TheVariants.{Empty, BadByte, TooManyPlaces, OutOfRange}
 use Rattle.sidb_units.proofs.NumeralLemmas.{not_point}
@@ -49,11 +49,11 @@ not_empty : (text : List ℕ) (w : ℕ) → IsNumeral text w → text ≡ [] →
 not_empty text w numeral e = let l : length text ≡ 0 = ap length e in omega (arith, numeral.some, numeral.within)
 
 -- the number of a numeral is one
-one_value : (text : List ℕ) (d w places : ℕ) → IsNumeral text d → IsNumeral text w → value_of text d places ≡ value_of text w places
-one_value text d w places a b = ap (λ (n : ℕ). value_of text n places) (one_numeral text d w a b)
+one_value : (text : List ℕ) (d w places : ℕ) → IsNumeral text d → IsNumeral text w → decimal_value text d places ≡ decimal_value text w places
+one_value text d w places a b = ap (λ (n : ℕ). decimal_value text n places) (one_numeral text d w a b)
 
-no_many : (text : List ℕ) (d places : ℕ) → IsNumeral text d → places_of text d ≤ places → HasTooMany text places → ⊥
-no_many text d places numeral few h = let same = one_numeral text d h.digits numeral h.numeral in omega (arith, few, h.many, ap (places_of text) same)
+no_many : (text : List ℕ) (d places : ℕ) → IsNumeral text d → places_after_point text d ≤ places → HasTooMany text places → ⊥
+no_many text d places numeral few h = let same = one_numeral text d h.digits numeral h.numeral in omega (arith, few, h.many, ap (places_after_point text) same)
 
 not_within : (v w least greatest : ℤ) → v ≡ w → least ≤ℤ v → v ≤ℤ greatest → (w <ℤ least) ⊎ (greatest <ℤ w) → ⊥
 not_within v w least greatest e from to (inl low) = omega (arith, ints)
@@ -69,13 +69,13 @@ module _ (text : List ℕ) (places : ℕ) (least greatest : ℤ) where
   no_outside : (v : ℤ) → IsReadAs text places least greatest v → IsOutside text places least greatest → ⊥
   no_outside v a h = not_within v _ least greatest (a.value ∙ ap pos (one_value text a.digits h.digits places a.numeral h.numeral)) a.from a.to h.outside
 
-  pub faults : (v : ℤ) (e : DecFault) → IsReadAs text places least greatest v → HasFault text places least greatest e → ⊥
+  pub faults : (v : ℤ) (e : DecFault) → IsReadAs text places least greatest v → HasDecimalFault text places least greatest e → ⊥
   faults v Empty a h = not_empty text a.digits a.numeral h
   faults v (BadByte at) a h = not_bad text a.digits at a.numeral h.1
   faults v TooManyPlaces a h = no_many text a.digits places a.numeral a.few h
   faults v OutOfRange a h = no_outside v a h
 
-  pub one : (e f : DecFault) → HasFault text places least greatest e → HasFault text places least greatest f → e ≡ f
+  pub one : (e f : DecFault) → HasDecimalFault text places least greatest e → HasDecimalFault text places least greatest f → e ≡ f
   one Empty Empty a b = refl
   one Empty (BadByte at) a b = absurd (empty_long text a b.0)
   one Empty TooManyPlaces a b = absurd (not_empty text b.digits b.numeral a)
@@ -94,10 +94,10 @@ module _ (text : List ℕ) (places : ℕ) (least greatest : ℤ) where
   one OutOfRange OutOfRange a b = refl
 
   -- an answer that is right is the answer
-  pub only_value : (r : Result ℤ DecFault) → IfOk r (IsReadAs text places least greatest) → IfErr r (HasFault text places least greatest) → (v : ℤ) → IsReadAs text places least greatest v → r ≡ Ok v
+  pub only_value : (r : Result ℤ DecFault) → IfOk r (IsReadAs text places least greatest) → IfErr r (HasDecimalFault text places least greatest) → (v : ℤ) → IsReadAs text places least greatest v → r ≡ Ok v
   only_value (Ok w) ok err v a = ap Ok (values w v ok a)
   only_value (Err e) ok err v a = absurd (faults v e a err)
 
-  pub only_fault : (r : Result ℤ DecFault) → IfOk r (IsReadAs text places least greatest) → IfErr r (HasFault text places least greatest) → (e : DecFault) → HasFault text places least greatest e → r ≡ Err e
+  pub only_fault : (r : Result ℤ DecFault) → IfOk r (IsReadAs text places least greatest) → IfErr r (HasDecimalFault text places least greatest) → (e : DecFault) → HasDecimalFault text places least greatest e → r ≡ Err e
   only_fault (Ok w) ok err e h = absurd (faults w e ok h)
   only_fault (Err f) ok err e h = ap Err (one f e err h)

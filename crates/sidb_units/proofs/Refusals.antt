@@ -3,7 +3,7 @@ use Rattle.std.proofs.Common.{◌≡◌, ℕ, pos, List, [], ◌∷◌, arith, i
 use Rattle.std.proofs.lemmas.Int.{ints}
 use Rattle.sidb_units.specs.declared.decimal_fault.DecFault.TheVariants.{BadByte, TooManyPlaces, OutOfRange}
 use Rattle.sidb_units.specs.Numeral.{IsDigit, HasFraction, IsNumeral}
-use Rattle.sidb_units.specs.Decimal.{IsReadAs, HasFault}
+use Rattle.sidb_units.specs.Decimal.{IsReadAs, HasDecimalFault}
 use Rattle.sidb_units.proofs.ReadingLemmas.{values, faults, one}
 use Rattle.sidb_units.proofs.StandardFacts.{five_point_six, five_point, five_comma_six, seven, five_point_six_is, comma_is_bad, point_ends_too_early, too_many}
 
@@ -54,15 +54,15 @@ no_number_with_many_places r = faults five_point_six 0 (pos 0) (pos 9) (pos 5) T
 no_number_with_a_comma : IsReadAs five_comma_six 4 (pos 10000) (pos 1000000) (pos 50000) → ⊥
 no_number_with_a_comma r = faults five_comma_six 4 (pos 10000) (pos 1000000) (pos 50000) (BadByte 1) r comma_is_bad
 
-no_fault_of_a_number : HasFault five_point_six 4 (pos 10000) (pos 1000000) OutOfRange → ⊥
+no_fault_of_a_number : HasDecimalFault five_point_six 4 (pos 10000) (pos 1000000) OutOfRange → ⊥
 no_fault_of_a_number f = faults five_point_six 4 (pos 10000) (pos 1000000) (pos 56000) OutOfRange five_point_six_is f
 
-no_earlier_byte : HasFault five_point 4 (pos 10000) (pos 1000000) (BadByte 1) → ⊥
+no_earlier_byte : HasDecimalFault five_point 4 (pos 10000) (pos 1000000) (BadByte 1) → ⊥
 no_earlier_byte f =
     let same : BadByte 1 ≡ BadByte 2 = one five_point 4 (pos 10000) (pos 1000000) (BadByte 1) (BadByte 2) f point_ends_too_early in
     cc
 
-no_range_before_places : HasFault five_point_six 0 (pos 6) (pos 9) OutOfRange → ⊥
+no_range_before_places : HasDecimalFault five_point_six 0 (pos 6) (pos 9) OutOfRange → ⊥
 no_range_before_places f =
     let same : OutOfRange ≡ TooManyPlaces = one five_point_six 0 (pos 6) (pos 9) OutOfRange TooManyPlaces f too_many in
     cc

@@ -10,7 +10,7 @@ use Rattle.std.proofs.Math.Seq.{drop-append-add}
 use Rattle.std.specs.Char.{digit_value}
 use Rattle.std.specs.Str.Parse.{AllDigits, digits_value, digits_value_after}
 use Rattle.sidb_units.specs.Numeral.{IsDigit, IsNumeral}
-use Rattle.sidb_units.specs.Decimal.{IsReadAs, decimal_text, digits_of, last_digits, places_of, value_of}
+use Rattle.sidb_units.specs.Decimal.{IsReadAs, decimal_text, digits_of, last_digits, places_after_point, decimal_value}
 use Rattle.sidb_units.proofs.DigitLemmas.{AreDigits}
 
 after_append : (n : ℕ) (xs ys : List ℕ) → digits_value_after 10 n (xs ++ ys) ≡ digits_value_after 10 (digits_value_after 10 n xs) ys
@@ -76,10 +76,10 @@ digits_around front back =
     ∙ ap (λ (xs : List ℕ). front ++ xs) (drop-append-add front (46 ∷ back) 1)
 
 -- with all places given, the number is what the digits write
-whole_value : (text : List ℕ) (w places n : ℕ) → places ≡ places_of text w → digits_value 10 (digits_of text w) ≡ n → n ≡ value_of text w places
+whole_value : (text : List ℕ) (w places n : ℕ) → places ≡ places_after_point text w → digits_value 10 (digits_of text w) ≡ n → n ≡ decimal_value text w places
 whole_value text w places n same write =
-    let none : places - places_of text w ≡ 0 = omega arith in
-    let one : 10 ^ (places - places_of text w) ≡ 1 = ap (λ (k : ℕ). 10 ^ k) none in
+    let none : places - places_after_point text w ≡ 0 = omega arith in
+    let one : 10 ^ (places - places_after_point text w) ≡ 1 = ap (λ (k : ℕ). 10 ^ k) none in
     sym (ap (λ (m : ℕ). digits_value 10 (digits_of text w) * m) one ∙ (omega arith))
 
 pub reads_back : (n places : ℕ) (least greatest : ℤ) → n < 2 ^ 64 → least ≤ℤ pos n → pos n ≤ℤ greatest → IsReadAs (decimal_text places n) places least greatest (pos n)
@@ -87,7 +87,7 @@ reads_back n zero least greatest small from to =
     let text : List ℕ = decimal n in
     let printed = decimal_is_IsNumeral n small in
     let w : ℕ = length text in
-    let none : places_of text w ≡ 0 = omega arith in
+    let none : places_after_point text w ≡ 0 = omega arith in
     let digits : digits_of text w ≡ text = ap (λ (xs : List ℕ). xs ++ drop (w + 1) text) (take_all w text (omega arith)) ∙ ap (λ (xs : List ℕ). text ++ xs) (drop_all (w + 1) text (omega arith)) ∙ append-nil text in
     record {
       digits = w;
@@ -105,7 +105,7 @@ reads_back n (suc k) least greatest small from to =
     let printed = decimal_is_IsNumeral q (omega arith) in
     let long : length back ≡ suc k = length-last_digits (suc k) n in
     let len : length text ≡ length front + length (46 ∷ back) = length-append front (46 ∷ back) in
-    let places : suc k ≡ places_of text (length front) = omega arith in
+    let places : suc k ≡ places_after_point text (length front) = omega arith in
     let write : digits_value 10 (digits_of text (length front)) ≡ n = ap (digits_value 10) (digits_around front back) ∙ after_append 0 front back ∙ ap (λ (m : ℕ). digits_value_after 10 m back) printed.1 ∙ last_digits_write (suc k) n in
     record {
       digits = length front;

@@ -5,7 +5,7 @@ use Rattle.std.proofs.lemmas.Int.{by_lt_z}
 use Rattle.sidb_units.specs.declared.decimal_fault.DecFault.{DecFault}
 use Rattle.sidb_units.specs.declared.decimal_fault.DecFault.TheVariants.{Empty, BadByte, TooManyPlaces, OutOfRange}
 use Rattle.sidb_units.specs.Numeral.{CanGoOn, IsDigit, IsFirstBad, IsNumeral}
-use Rattle.sidb_units.specs.Decimal.{HasFault, IsBadForm, IsReadAs, places_of, value_of}
+use Rattle.sidb_units.specs.Decimal.{HasDecimalFault, IsBadForm, IsReadAs, places_after_point, decimal_value}
 use Rattle.sidb_units.proofs.NumeralLemmas.{can_start, can_digits, can_point, can_fraction, no_start, no_digits, no_fraction, no_end}
 
 decide_digit : (byte : ℕ) → IsDigit byte ⊎ ¬ IsDigit byte
@@ -118,16 +118,16 @@ form_of (b ∷ text) = after_start (b ∷ text) (omega arith) (run_from (b ∷ t
 
 -- a text is read as a number, or has a fault
 abbrev pub Reading : List ℕ → ℕ → ℤ → ℤ → Type 0
-Reading text places least greatest = ((v : ℤ) × IsReadAs text places least greatest v) ⊎ ((e : DecFault) × HasFault text places least greatest e)
+Reading text places least greatest = ((v : ℤ) × IsReadAs text places least greatest v) ⊎ ((e : DecFault) × HasDecimalFault text places least greatest e)
 
-of_form : (text : List ℕ) (places : ℕ) (least greatest : ℤ) (e : DecFault) → IsBadForm text e → HasFault text places least greatest e
+of_form : (text : List ℕ) (places : ℕ) (least greatest : ℤ) (e : DecFault) → IsBadForm text e → HasDecimalFault text places least greatest e
 of_form text places least greatest Empty bad = bad
 of_form text places least greatest (BadByte at) bad = bad
 of_form text places least greatest TooManyPlaces bad = absurd bad
 of_form text places least greatest OutOfRange bad = absurd bad
 
 of_numeral : (text : List ℕ) (places : ℕ) (least greatest : ℤ) (w : ℕ) → IsNumeral text w → Reading text places least greatest
-of_numeral text places least greatest w numeral = elim (cases_lt places (places_of text w)) [
+of_numeral text places least greatest w numeral = elim (cases_lt places (places_after_point text w)) [
   | inl many ↦ inr (TooManyPlaces, record { digits = w; numeral = numeral; many = many })
   | inr few ↦
       by_lt_z number least
@@ -137,7 +137,7 @@ of_numeral text places least greatest w numeral = elim (cases_lt places (places_
       (λ to. inl (number, record { digits = w; numeral = numeral; few = few; value = refl; from = from; to = to })))
 ] where
   number : ℤ
-  number = pos (value_of text w places)
+  number = pos (decimal_value text w places)
 
 pub some_reading : (text : List ℕ) (places : ℕ) (least greatest : ℤ) → Reading text places least greatest
 some_reading text places least greatest = elim (form_of text) [

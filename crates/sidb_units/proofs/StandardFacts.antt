@@ -4,7 +4,7 @@ use Rattle.std.proofs.lemmas.Int.{ints}
 use Rattle.std.specs.Fmt.{digits}
 use Rattle.sidb_units.specs.declared.decimal_fault.DecFault.TheVariants.{Empty, BadByte, TooManyPlaces, OutOfRange}
 use Rattle.sidb_units.specs.Numeral.{IsDigit, IsNumeral}
-use Rattle.sidb_units.specs.Decimal.{IsReadAs, HasFault, decimal_text, last_digits}
+use Rattle.sidb_units.specs.Decimal.{IsReadAs, HasDecimalFault, decimal_text, last_digits}
 use Rattle.sidb_units.proofs.NumeralLemmas.{can_digits, can_point, no_digits, no_end}
 
 -- `5.6`
@@ -73,10 +73,10 @@ seven_is = record {
   to = omega (arith, ints);
 }
 
-nothing_is_empty : HasFault [] 4 (pos 0) (pos 9) Empty
+nothing_is_empty : HasDecimalFault [] 4 (pos 0) (pos 9) Empty
 nothing_is_empty = refl
 
-pub comma_is_bad : HasFault five_comma_six 4 (pos 10000) (pos 1000000) (BadByte 1)
+pub comma_is_bad : HasDecimalFault five_comma_six 4 (pos 10000) (pos 1000000) (BadByte 1)
 comma_is_bad = (
   omega arith,
   record {
@@ -85,7 +85,7 @@ comma_is_bad = (
   },
 )
 
-pub point_ends_too_early : HasFault five_point 4 (pos 10000) (pos 1000000) (BadByte 2)
+pub point_ends_too_early : HasDecimalFault five_point 4 (pos 10000) (pos 1000000) (BadByte 2)
 point_ends_too_early = (
   omega arith,
   record {
@@ -94,13 +94,13 @@ point_ends_too_early = (
   },
 )
 
-pub too_many : HasFault five_point_six 0 (pos 0) (pos 9) TooManyPlaces
+pub too_many : HasDecimalFault five_point_six 0 (pos 0) (pos 9) TooManyPlaces
 too_many = record { digits = 1; numeral = five_point_six_numeral; many = omega arith }
 
-pub too_great : HasFault seven 0 (pos 0) (pos 6) OutOfRange
+pub too_great : HasDecimalFault seven 0 (pos 0) (pos 6) OutOfRange
 too_great = record { digits = 2; numeral = seven_numeral; few = omega arith; outside = inr (omega (arith, ints)) }
 
-pub too_small : HasFault seven 0 (pos 8) (pos 9) OutOfRange
+pub too_small : HasDecimalFault seven 0 (pos 8) (pos 9) OutOfRange
 too_small = record { digits = 2; numeral = seven_numeral; few = omega arith; outside = inl (omega (arith, ints)) }
 
 prints_places : decimal_text 4 56000 ≡ codes "5.6000"

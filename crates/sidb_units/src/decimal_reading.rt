@@ -2,7 +2,7 @@
 ghost use Rattle.std.specs.Prelude.{◌≡◌, ◌⊎◌, ℕ, ℤ, pos, ◌+◌, ◌-◌, ◌*◌, ◌^◌, ◌<◌, ◌≤◌, ◌≤ℤ◌, length, slice_index, min, fold, IfOk, IfErr, IfSome, IfNone, Result};
 ghost use Rattle.sidb_units.specs.declared.decimal_fault.DecFault.{DecFault};
 ghost use Rattle.sidb_units.specs.Numeral.{IsDigit, IsNumeral, point_byte};
-ghost use Rattle.sidb_units.specs.Decimal.{HasFault, IsBadForm, IsReadAs, next_digit};
+ghost use Rattle.sidb_units.specs.Decimal.{HasDecimalFault, IsBadForm, IsReadAs, next_digit};
 
 use crate::DecFault;
 
@@ -15,9 +15,10 @@ pub fn read_dec(text: &[u8], places: u32, least: i64, greatest: i64) -> Result<i
     requires least { pos 0 ≤ℤ least }
     requires order { least ≤ℤ greatest }
     ensures ok { IfOk result (IsReadAs text.now places least greatest) }
-    ensures err { IfErr result (HasFault text.now places least greatest) }
+    ensures err { IfErr result (HasDecimalFault text.now places least greatest) }
     ensures value { (v : ℤ) → IsReadAs text.now places least greatest v → result ≡ Ok v }
-    ensures fault { (e : DecFault) → HasFault text.now places least greatest e → result ≡ Err e }
+    ensures fault { (e : DecFault) → HasDecimalFault text.now places least greatest e
+        → result ≡ Err e }
 {
     let value = read_within(text, places, least as u64, greatest as u64)?;
     Ok(value as i64)
@@ -27,7 +28,7 @@ pub fn read_dec(text: &[u8], places: u32, least: i64, greatest: i64) -> Result<i
 fn read_within(text: &[u8], places: u32, least: u64, greatest: u64) -> Result<u64, DecFault>
     requires places { places ≤ 12 }
     ensures ok { IfOk result (λ v. IsReadAs text.now places (pos least) (pos greatest) (pos v)) }
-    ensures err { IfErr result (HasFault text.now places (pos least) (pos greatest)) }
+    ensures err { IfErr result (HasDecimalFault text.now places (pos least) (pos greatest)) }
 {
     let whole = whole_len(text)?;
     let fraction = &text[(whole + 1).min(text.len())..];

@@ -1,18 +1,19 @@
 ghost use Rattle.std.specs.Prelude.{◌≡◌, ◌⊎◌, ℕ, ℤ, pos, ◌<◌, ◌≤ℤ◌, ◌^◌, List};
 ghost use Rattle.sidb_units.specs.declared.decimal_fault.DecFault.{DecFault};
-ghost use Rattle.sidb_units.specs.Decimal.{HasFault, IsReadAs, decimal_text};
+ghost use Rattle.sidb_units.specs.Decimal.{HasDecimalFault, IsReadAs, decimal_text};
 
 /// A text has exactly one reading: one number, or one fault.
 pub fn one_reading()
     ensures some { (text : List ℕ) (places : ℕ) (least greatest : ℤ)
         → ((v : ℤ) × IsReadAs text places least greatest v)
-        ⊎ ((e : DecFault) × HasFault text places least greatest e) }
+        ⊎ ((e : DecFault) × HasDecimalFault text places least greatest e) }
     ensures value { (text : List ℕ) (places : ℕ) (least greatest v w : ℤ)
         → IsReadAs text places least greatest v → IsReadAs text places least greatest w → v ≡ w }
     ensures no_fault { (text : List ℕ) (places : ℕ) (least greatest v : ℤ) (e : DecFault)
-        → IsReadAs text places least greatest v → ¬ HasFault text places least greatest e }
+        → IsReadAs text places least greatest v → ¬ HasDecimalFault text places least greatest e }
     ensures fault { (text : List ℕ) (places : ℕ) (least greatest : ℤ) (e f : DecFault)
-        → HasFault text places least greatest e → HasFault text places least greatest f → e ≡ f }
+        → HasDecimalFault text places least greatest e
+        → HasDecimalFault text places least greatest f → e ≡ f }
 {}
 
 /// A number that is printed is read back, whatever the places.

@@ -9,8 +9,8 @@ use Rattle.command_words.specs.declared.settings.Task.{Task}
 use Rattle.command_words.specs.declared.settings.Task.TheVariants.{Ground, Potentials, Certify, Check, Window, Occupation, Range, Gen, Truth, Domain, Region}
 use Rattle.command_words.specs.Settings.{IsSettingsOf}
 use Rattle.ground_report.specs.declared.about.About.{About}
-use Rattle.ground_state.specs.Answer.{IsListedWithin, IsOverBudget, IsSolution, IsTooLongWithin}
-use Rattle.ground_state.specs.Window.{IsWindowListedWithin, IsWindowOverBudget, IsWindowTooLongWithin}
+use Rattle.ground_state.specs.Answer.{IsListedWithin, IsOverLimit, IsSolution, IsTooLongWithin}
+use Rattle.ground_state.specs.Window.{IsWindowListedWithin, IsWindowOverLimit, IsWindowTooLongWithin}
 use Rattle.run_answer.specs.declared.status.Status.{Status}
 use Rattle.run_answer.specs.Status.{IsBudgetAnswer, IsLongListAnswer}
 use Rattle.task_certificate.specs.CertifyAnswer.{IsCertifyAnswer, IsCertificateWithin}
@@ -48,7 +48,7 @@ same_rest a b alike =
 
 unlisted : (a : Settings) (s : SearchSettings) → a.search.limit ≡ s.limit → (p : Problem) (status : Status) (text : List ℕ) → IsUnlisted a p status text → IsUnlisted (with_search a s) p status text
 unlisted a s same p status text =
-    subst (λ limit. (IsOverBudget p limit × IsBudgetAnswer limit status text) ⊎ (IsTooLongWithin p limit × IsLongListAnswer status text)) same
+    subst (λ limit. (IsOverLimit p limit × IsBudgetAnswer limit status text) ⊎ (IsTooLongWithin p limit × IsLongListAnswer status text)) same
 
 ground : (a : Settings) (s : SearchSettings) → a.search.limit ≡ s.limit → (about : About) (p : Problem) (status : Status) (text : List ℕ) → IsGroundAnswer a about p status text → IsGroundAnswer (with_search a s) about p status text
 ground a s same about p status text (inl is) =
@@ -62,7 +62,7 @@ certify a s same p status text (inr is) = inr (unlisted a s same p status text i
 beyond : (a : Settings) (s : SearchSettings) → a.search.limit ≡ s.limit → (p : Problem) (status : Status) (text : List ℕ) → IsWindowUnlisted a p status text → IsWindowUnlisted (with_search a s) p status text
 beyond a s same p status text is =
     let width = a.levels.window.width in
-    subst (λ limit. (IsWindowOverBudget p width limit × IsBudgetAnswer limit status text) ⊎ (IsWindowTooLongWithin p width limit × IsLongListAnswer status text)) same is
+    subst (λ limit. (IsWindowOverLimit p width limit × IsBudgetAnswer limit status text) ⊎ (IsWindowTooLongWithin p width limit × IsLongListAnswer status text)) same is
 
 window : (a : Settings) (s : SearchSettings) → a.search.limit ≡ s.limit → (about : About) (p : Problem) (status : Status) (text : List ℕ) → IsWindowListAnswer a about p status text → IsWindowListAnswer (with_search a s) about p status text
 window a s same about p status text (inl is) =
@@ -127,7 +127,7 @@ gen a s same status text (inl is) = inl (
   },
 )
 gen a s same status text (inr (inl (is, line))) = inr (inl (
-  record { problem = is.problem; generated = generated a s is.problem is.generated; over = subst (λ limit. IsOverBudget is.problem limit) same is.over },
+  record { problem = is.problem; generated = generated a s is.problem is.generated; over = subst (λ limit. IsOverLimit is.problem limit) same is.over },
   subst (λ limit. IsBudgetAnswer limit status text) same line,
 ))
 gen a s same status text (inr (inr (is, line))) = inr (inr (

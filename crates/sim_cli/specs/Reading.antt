@@ -1,7 +1,7 @@
 -- what was read for a task
 use Rattle.std.specs.Prelude.{◌≡◌, ◌≢◌, ◌⊎◌, ℕ, List, None, ⊤}
 use Rattle.command_words.specs.declared.settings.Settings.{Settings}
-use Rattle.command_words.specs.declared.settings.Form.TheVariants.{Table}
+use Rattle.command_words.specs.declared.settings.InputForm.TheVariants.{Table}
 use Rattle.fault_lines.specs.declared.input_fault.InputFault.{InputFault}
 use Rattle.fault_lines.specs.declared.input_fault.InputFault.TheVariants.{TooLong}
 use Rattle.task_certificate.specs.CheckAnswer.{IsTextFault}
@@ -33,15 +33,15 @@ IsRefusedAs CertificateText s bytes fault = IsTextFault bytes fault
 IsRefusedAs NoText s bytes fault = ⊥
 
 -- the task of the settings refuses bytes so
-abbrev pub IsRefusedFor : Settings → List ℕ → InputFault → Type 0
-IsRefusedFor s bytes fault = IsRefusedAs (kind_of s.task) s bytes fault
+abbrev pub IsRefusedForTask : Settings → List ℕ → InputFault → Type 0
+IsRefusedForTask s bytes fault = IsRefusedAs (kind_of s.task) s bytes fault
 
 -- the bytes mean so by the settings, or are refused so, and memory may be wanting
 abbrev pub IsReadingOf : Settings → Read → List ℕ → Type 0
 IsReadingOf s (Problem input) bytes = IsInput s bytes input.problem input.about
 IsReadingOf s (Certificate text) bytes = text.items ≡ bytes
 IsReadingOf s Nothing bytes = ⊤
-IsReadingOf s (Refused fault) bytes = IsWantOfMemory fault ⊎ IsRefusedFor s bytes fault
+IsReadingOf s (Refused fault) bytes = IsWantOfMemory fault ⊎ IsRefusedForTask s bytes fault
 IsReadingOf s ReadFault bytes = ⊤
 IsReadingOf s Memory bytes = ⊤
 

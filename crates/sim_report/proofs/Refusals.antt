@@ -6,7 +6,7 @@ use Rattle.charge_model.specs.GroundList.{Entry}
 use Rattle.sidb_layout.specs.Lattice.{silicon}
 use Rattle.sidb_layout.specs.Layout.{arrangement_of}
 use Rattle.ground_report.specs.declared.about.About.{About}
-use Rattle.sim_report.specs.GroundText.{lattice_rows, title_rows, count_rows, IsGroundText}
+use Rattle.sim_report.specs.GroundText.{lattice_rows, ground_title_rows, count_rows, IsGroundText}
 use Rattle.sidb_units.specs.Decimal.{last_digits}
 use Rattle.sim_report.specs.OccupationText.{occupation_title_rows, share_row}
 use Rattle.sim_report.specs.WindowText.{window_title_rows}
@@ -15,7 +15,7 @@ use Rattle.sim_report.proofs.StandardFacts.{closer, beside_fixed, neutral}
 no_line_for_silicon : lattice_rows silicon ≡ [] → lattice_rows closer ≡ [] → ⊥
 no_line_for_silicon is other = absurd (cc)
 
-not_version_1 : (n : ℕ) → title_rows beside_fixed n ≡ title_rows (record { layout = None; skipped = 0 }) n → ⊥
+not_version_1 : (n : ℕ) → ground_title_rows beside_fixed n ≡ ground_title_rows (record { layout = None; skipped = 0 }) n → ⊥
 unfolding digits
 not_version_1 n is = let differ : 50 ≡ 49 = ap (λ (rows : List (List (List ℕ))). get_or (get_or (get_or rows 0 []) 1 []) 0 0) is in omega (arith, differ)
 

@@ -7,9 +7,9 @@ use Rattle.charge_model.specs.declared.span.Span.{Span}
 use Rattle.charge_model.specs.GroundList.{Entry}
 use Rattle.ground_report.specs.declared.about.About.{About}
 use Rattle.ground_report.specs.Energies.{AreEnergies}
-use Rattle.text_rows.specs.Rows.{text_of}
+use Rattle.text_rows.specs.Rows.{text_of, end_rows}
 use Rattle.entry_lines.specs.EntryLines.{entry_words}
-use Rattle.sim_report.specs.GroundText.{layout_rows, count_rows, end_rows, titled_text, energy_row, AreEntryLines, IsTitledText}
+use Rattle.sim_report.specs.GroundText.{layout_rows, count_rows, titled_text, energy_row, AreEntryLines, IsTitledText}
 use Rattle.sim_report.proofs.RowLemmas.{text_of-append}
 
 -- a list of energies is as long as its list of entries

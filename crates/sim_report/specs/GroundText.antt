@@ -9,7 +9,7 @@ use Rattle.sidb_layout.specs.declared.site.Site.{Site}
 use Rattle.sidb_layout.specs.declared.site.Fix.{Fix}
 use Rattle.sidb_layout.specs.declared.lattice.Lattice.{Lattice}
 use Rattle.sidb_layout.specs.Layout.{Arrangement}
-use Rattle.text_rows.specs.Rows.{text_of}
+use Rattle.text_rows.specs.Rows.{text_of, end_rows}
 use Rattle.entry_lines.specs.EntryLines.{entry_words, span_words}
 use Rattle.ground_report.specs.declared.about.About.{About}
 use Rattle.ground_report.specs.Subject.{is_silicon, version_of, skipped_in}
@@ -42,18 +42,14 @@ layout_rows (Some l) = lattice_rows l.lattice
     ++ (map site_row (enumerate_from 0 l.sites) ++ map fix_row (enumerate_from 0 l.fixes))
 
 -- the first two lines: the version, and how many sites there are
-abbrev pub title_rows : About → ℕ → List (List (List ℕ))
-title_rows a sites = (codes "sidb-ground" ∷ decimal (version_of a.layout) ∷ [])
+abbrev pub ground_title_rows : About → ℕ → List (List (List ℕ))
+ground_title_rows a sites = (codes "sidb-ground" ∷ decimal (version_of a.layout) ∷ [])
     ∷ (codes "sites" ∷ decimal sites ∷ []) ∷ []
 
 -- how many items were skipped, and how many entries there are
 abbrev pub count_rows : About → ℕ → List (List (List ℕ))
 count_rows a entries = (codes "skipped" ∷ decimal (skipped_in a) ∷ [])
     ∷ (codes "entries" ∷ decimal entries ∷ []) ∷ []
-
--- the last line
-abbrev pub end_rows : List (List (List ℕ))
-end_rows = (codes "end" ∷ []) ∷ []
 
 -- the text with this title and these lines of entries
 abbrev pub titled_text : List (List (List ℕ)) → About → List (List (List ℕ)) → List ℕ
@@ -77,7 +73,7 @@ AreEntryLines p es true text = AreLinesWithEnergies p es text
 
 -- the ground text without energies
 abbrev pub plain_text : About → ℕ → List Entry → List ℕ
-plain_text a sites es = titled_text (title_rows a sites) a (map entry_words es)
+plain_text a sites es = titled_text (ground_title_rows a sites) a (map entry_words es)
 
 -- the text with this title and each entry with its energy
 pub record IsTextWithEnergies (title : List (List (List ℕ))) (a : About) (p : Problem)
@@ -94,4 +90,4 @@ IsTitledText title a p es true text = IsTextWithEnergies title a p es text
 
 -- the ground text, without energies or with them
 abbrev pub IsGroundText : About → Problem → List Entry → Bool → List ℕ → Type 0
-IsGroundText a p es energies text = IsTitledText (title_rows a p.sites) a p es energies text
+IsGroundText a p es energies text = IsTitledText (ground_title_rows a p.sites) a p es energies text

@@ -5,8 +5,7 @@ use Rattle.charge_model.specs.GroundList.{Entry}
 use Rattle.charge_state.specs.Text.{charges_text}
 use Rattle.occupation.specs.declared.share.Share.{Share}
 use Rattle.sidb_units.specs.Decimal.{decimal_text}
-use Rattle.text_rows.specs.Rows.{text_of}
-use Rattle.sim_report.specs.GroundText.{end_rows}
+use Rattle.text_rows.specs.Rows.{text_of, end_rows}
 
 -- the lines before the entries: the kind, the window and kT in 10^-12 V, and how many sites and how
 -- many entries there are

@@ -4,7 +4,7 @@ ghost use Rattle.std.specs.List.{join_with_byte};
 ghost use Rattle.text_rows.specs.Rows.{text_of};
 ghost use Rattle.ground_entries.specs.Seen.{seen};
 ghost use Rattle.entry_lines.specs.EntryLines.{entry_words, span_words};
-ghost use Rattle.ground_report.specs.Subject.{AreOf};
+ghost use Rattle.ground_report.specs.Subject.{AreListsOfProblem};
 ghost use Rattle.sim_report.specs.GroundText.{AreEntryLines, energy_row};
 
 use crate::rows::push_row;
@@ -23,7 +23,7 @@ pub fn list_lines(
     list: &GroundList,
     energies: bool,
 ) -> Result<String, Memory>
-    requires { AreOf problem.now list.now }
+    requires { AreListsOfProblem problem.now list.now }
     ensures { IfOk result (λ text. AreEntryLines problem.now list.now energies
         (string_bytes text)) }
 {

@@ -1,7 +1,7 @@
 ghost use Rattle.std.specs.Prelude.{◌≡◌, ◌++◌, ℕ, List, string_bytes, IfOk};
 ghost use Rattle.text_rows.specs.Rows.{text_of};
-ghost use Rattle.ground_report.specs.Subject.{AreOf};
-ghost use Rattle.sim_report.specs.GroundText.{IsGroundText, IsTitledText, count_rows, layout_rows, title_rows};
+ghost use Rattle.ground_report.specs.Subject.{AreListsOfProblem};
+ghost use Rattle.sim_report.specs.GroundText.{IsGroundText, IsTitledText, count_rows, layout_rows, ground_title_rows};
 ghost use Rattle.sim_report.specs.WindowText.{IsWindowText, window_title_rows};
 
 use crate::layout::layout_lines;
@@ -24,7 +24,7 @@ pub fn ground_text(
     list: &GroundList,
     energies: bool,
 ) -> Result<String, Memory>
-    requires entries { AreOf problem.now list.now }
+    requires entries { AreListsOfProblem problem.now list.now }
     ensures text { IfOk result (λ text.
         IsGroundText about.now problem.now list.now energies (string_bytes text)) }
 {
@@ -42,7 +42,7 @@ pub fn window_text(
     list: &GroundList,
     energies: bool,
 ) -> Result<String, Memory>
-    requires entries { AreOf problem.now list.now }
+    requires entries { AreListsOfProblem problem.now list.now }
     ensures text { IfOk result (λ text. IsWindowText about.now problem.now window.now.width
         list.now energies (string_bytes text)) }
 {
@@ -59,7 +59,7 @@ fn titled(
     list: &GroundList,
     energies: bool,
 ) -> Result<String, Memory>
-    requires { AreOf problem.now list.now }
+    requires { AreListsOfProblem problem.now list.now }
     ensures { (rows : List (List (List ℕ))) → string_bytes title ≡ text_of rows
         → IfOk result (λ text. IsTitledText rows about.now problem.now list.now energies
         (string_bytes text)) }
@@ -92,7 +92,8 @@ fn with_counts(
 
 /// The title of a ground text.
 fn title(alloc: Global, about: &About, sites: usize) -> Result<String, Memory>
-    ensures { IfOk result (λ text. string_bytes text ≡ text_of (title_rows about.now sites)) }
+    ensures { IfOk result (λ text. string_bytes text
+        ≡ text_of (ground_title_rows about.now sites)) }
 {
     let version = about.version();
     Ok(format!(in alloc; "sidb-ground {version}\nsites {sites}\n")?)

@@ -3,7 +3,7 @@ ghost use Rattle.std.specs.Prelude.{◌≡◌, ◌<◌, All, length, map, slice_
 ghost use Rattle.std.specs.List.{join_with_byte};
 ghost use Rattle.text_rows.specs.Rows.{text_of};
 ghost use Rattle.ground_entries.specs.Seen.{seen};
-ghost use Rattle.occupation.specs.Shares.{IsPart};
+ghost use Rattle.occupation.specs.Shares.{IsPartOfWhole};
 ghost use Rattle.sim_report.specs.OccupationText.{occupation_text, occupation_title_rows, share_row};
 
 use crate::rows::push_row;
@@ -29,7 +29,7 @@ pub fn occupation_text(
     shares: &[Share],
 ) -> Result<String, Memory>
     requires one_each { length shares.now ≡ length list.now }
-    requires parts { All IsPart shares.now }
+    requires parts { All IsPartOfWhole shares.now }
     ensures text { IfOk result (λ text. string_bytes text
         ≡ occupation_text window.now.width kt problem.now.sites list.now shares.now) }
 {
@@ -60,7 +60,7 @@ fn occupation_title(
 /// The lines of the entries, each with its share.
 fn share_lines(alloc: Global, list: &GroundList, shares: &[Share]) -> Result<String, Memory>
     requires one_each { length shares.now ≡ length list.now }
-    requires parts { All IsPart shares.now }
+    requires parts { All IsPartOfWhole shares.now }
     ensures { IfOk result (λ text. string_bytes text
         ≡ text_of (map share_row (zip list.now shares.now))) }
 {
@@ -76,16 +76,16 @@ fn share_lines(alloc: Global, list: &GroundList, shares: &[Share]) -> Result<Str
 /// Share j.
 fn share_at(shares: &[Share], j: usize) -> Share
     requires within { j < length shares.now }
-    requires parts { All IsPart shares.now }
+    requires parts { All IsPartOfWhole shares.now }
     ensures value { slice_get shares.now j ≡ Some result }
-    ensures part { IsPart result }
+    ensures part { IsPartOfWhole result }
 {
     shares[j]
 }
 
 /// The line of an entry with its share, without a line feed.
 fn share_line(alloc: Global, entry: &Entry, share: &Share) -> Result<String, Memory>
-    requires { IsPart share.now }
+    requires { IsPartOfWhole share.now }
     ensures { IfOk result (λ line. string_bytes line
         ≡ join_with_byte 32 (share_row (seen entry.now, share.now))) }
 {

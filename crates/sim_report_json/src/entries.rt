@@ -2,7 +2,7 @@
 ghost use Rattle.std.specs.Prelude.{◌≡◌, ◌<◌, length, map, slice_get, zip, IfOk, None, Some};
 ghost use Rattle.serde_json.specs.View.{view};
 ghost use Rattle.ground_entries.specs.Seen.{seen};
-ghost use Rattle.ground_report.specs.Subject.{AreOf};
+ghost use Rattle.ground_report.specs.Subject.{AreListsOfProblem};
 ghost use Rattle.sim_report_json.specs.Parts.{entry_data};
 ghost use Rattle.sim_report_json.specs.GroundJson.{AreEntryData, entry_with_energy};
 
@@ -24,7 +24,7 @@ pub fn entry_values(
     list: &GroundList,
     energies: bool,
 ) -> Result<Vec<Value>, Memory>
-    requires { AreOf problem.now list.now }
+    requires { AreListsOfProblem problem.now list.now }
     ensures { IfOk result (λ values.
         AreEntryData problem.now list.now energies (map view values.items)) }
 {

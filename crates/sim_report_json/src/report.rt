@@ -1,6 +1,6 @@
 ghost use Rattle.std.specs.Prelude.{◌≡◌, map, string_bytes, IfOk};
 ghost use Rattle.serde_json.specs.View.{view};
-ghost use Rattle.ground_report.specs.Subject.{AreOf};
+ghost use Rattle.ground_report.specs.Subject.{AreListsOfProblem};
 ghost use Rattle.sim_report_json.specs.GroundJson.{IsGroundJson, report_data};
 
 use crate::entries::entry_values;
@@ -23,7 +23,7 @@ pub fn ground_json(
     list: &GroundList,
     energies: bool,
 ) -> Result<String, Memory>
-    requires entries { AreOf problem.now list.now }
+    requires entries { AreListsOfProblem problem.now list.now }
     ensures text { IfOk result (λ text.
         IsGroundJson about.now problem.now list.now energies (string_bytes text)) }
 {

@@ -11,8 +11,8 @@ use Rattle.sidb_layout.specs.Refusal.{IsFirstOutside, IsTooClose}
 use Rattle.sqd_layout.specs.declared.sites.line.SitesLine.{SitesLine}
 use Rattle.sqd_layout.specs.SqdFault.{SqdFault}
 use Rattle.sqd_layout.specs.SqdFault.TheVariants.{BadLine, OutOfRange, TooMany, TooManyFixes, Duplicate, TooClose}
-use Rattle.sqd_layout.specs.SitesLines.{lines_in, lines_of, sites_of, fixes_of}
-use Rattle.sqd_layout.specs.SitesFaults.{AreFine, IsFirstBad, IsLineInRange, AreLinesInRange, AreFewLines, HasNoClash, IsFirstClash, IsLatticeOf, IsClear, IsLinesFault, IsLayoutOf, IsSitesText, IsSitesFault}
+use Rattle.sqd_layout.specs.SitesLines.{lines_in, sites_lines_of, sites_in_lines, fixes_of}
+use Rattle.sqd_layout.specs.SitesFaults.{AreFineSitesLines, IsFirstBadLine, IsLineInRange, AreLinesInRange, AreFewLines, HasNoClash, IsFirstClash, IsLatticeOf, IsClear, IsLinesFault, IsLayoutOf, IsSitesText, IsSitesFault}
 use Rattle.sites_laws.proofs.Decided.{Decided}
 use Rattle.sites_laws.proofs.LawsBelow.{AreLaws}
 use Rattle.sites_laws.proofs.Firsts.{all_or_first, fine_or_bad, none_or_clash}
@@ -52,9 +52,9 @@ by_places laws ls few = by (none_or_clash (λ a b. a ≡ b) laws.same_decided ls
     by (inr (i, j, clash)) = inr (Duplicate (i + 1) (j + 1), (few, (i, refl, (j, refl, clash))))
 
 by_counts : AreLaws → (ls : List SitesLine) → AreLinesInRange ls → HaveReading ls
-by_counts laws ls all = by (cases_lt MAX_SITES (length (sites_of ls))) (cases_lt MAX_FIXED (length (fixes_of ls)))
+by_counts laws ls all = by (cases_lt MAX_SITES (length (sites_in_lines ls))) (cases_lt MAX_FIXED (length (fixes_of ls)))
   where
-    by : (MAX_SITES < length (sites_of ls)) ⊎ (length (sites_of ls) ≤ MAX_SITES) → (MAX_FIXED < length (fixes_of ls)) ⊎ (length (fixes_of ls) ≤ MAX_FIXED) → HaveReading ls
+    by : (MAX_SITES < length (sites_in_lines ls)) ⊎ (length (sites_in_lines ls) ≤ MAX_SITES) → (MAX_FIXED < length (fixes_of ls)) ⊎ (length (fixes_of ls) ≤ MAX_FIXED) → HaveReading ls
     by (inl many) fixes = inr (TooMany, (all, many))
     by (inr sites) (inl many) = inr (TooManyFixes, (all, sites, many))
     by (inr sites) (inr fixes) = by_places laws ls (record { in_range = all; few_sites = sites; few_fixes = fixes })
@@ -71,17 +71,17 @@ abbrev pub HasReading : List ℕ → Type 0
 HasReading text = ((p : Arrangement) × IsSitesText text p) ⊎ ((fault : SqdFault) × IsSitesFault text fault)
 
 -- a fault of fine lines is one of the text
-lines_fault : (text : List ℕ) → AreFine (lines_in text) → (fault : SqdFault) → IsLinesFault (lines_of text) fault → IsSitesFault text fault
+lines_fault : (text : List ℕ) → AreFineSitesLines (lines_in text) → (fault : SqdFault) → IsLinesFault (sites_lines_of text) fault → IsSitesFault text fault
 lines_fault text fine (BadLine k) wrong = absurd wrong
 lines_fault text fine fault wrong = (fine, wrong)
 
 pub has_reading : AreLaws → (text : List ℕ) → HasReading text
 has_reading laws text = by (fine_or_bad (lines_in text))
   where
-    fine_text : AreFine (lines_in text) → HaveReading (lines_of text) → HasReading text
+    fine_text : AreFineSitesLines (lines_in text) → HaveReading (sites_lines_of text) → HasReading text
     fine_text fine (inl (p, layout)) = inl (p, record { fine = fine; layout = layout })
     fine_text fine (inr (fault, wrong)) = inr (fault, lines_fault text fine fault wrong)
 
-    by : AreFine (lines_in text) ⊎ ((i : ℕ) × IsFirstBad (lines_in text) i) → HasReading text
-    by (inl fine) = fine_text fine (lines_reading laws (lines_of text))
+    by : AreFineSitesLines (lines_in text) ⊎ ((i : ℕ) × IsFirstBadLine (lines_in text) i) → HasReading text
+    by (inl fine) = fine_text fine (lines_reading laws (sites_lines_of text))
     by (inr (i, bad)) = inr (BadLine (i + 1), (i, refl, bad))

@@ -8,7 +8,7 @@ use Rattle.sidb_layout.specs.declared.site.Site.{Site}
 use Rattle.sidb_layout.specs.Refusal.{IsFirstOutside}
 use Rattle.sqd_layout.specs.declared.sites.line.SitesLine.{SitesLine}
 use Rattle.sqd_layout.specs.SitesLines.{is_lattice, place_on}
-use Rattle.sqd_layout.specs.SitesFaults.{AreFine, IsFirstBad, AreRelated, HasNoClash, IsFirstClash}
+use Rattle.sqd_layout.specs.SitesFaults.{AreFineSitesLines, IsFirstBadLine, AreRelated, HasNoClash, IsFirstClash}
 use Rattle.sites_laws.proofs.Decided.{Decided, decided_by, both_decided, le_decided, all_decided}
 
 -- the first outside
@@ -26,15 +26,15 @@ there_decided : (line : Option SitesLine) → Decided (IsSome line)
 there_decided None = inr false≢true
 there_decided (Some line) = inl refl
 
-fine_decided : (found : List (Option SitesLine)) → Decided (AreFine found)
+fine_decided : (found : List (Option SitesLine)) → Decided (AreFineSitesLines found)
 fine_decided found =
-    decided_by (All (λ line. IsSome line) found × (count_by is_lattice found ≤ 1)) (AreFine found)
+    decided_by (All (λ line. IsSome line) found × (count_by is_lattice found ≤ 1)) (AreFineSitesLines found)
     (λ h. record { each = h.0; one_lattice = h.1 }) (λ fine. (fine.each, fine.one_lattice))
     (both_decided (All (λ line. IsSome line) found) (count_by is_lattice found ≤ 1)
     (all_decided (λ line. IsSome line) there_decided found) (le_decided (count_by is_lattice found) 1))
 
 abbrev IsFineOrBad : List (Option SitesLine) → ℕ → Type 0
-IsFineOrBad found n = AreFine (take n found) ⊎ ((i : ℕ) × IsFirstBad found i)
+IsFineOrBad found n = AreFineSitesLines (take n found) ⊎ ((i : ℕ) × IsFirstBadLine found i)
 
 front_fine : (found : List (Option SitesLine)) (n : ℕ) → IsFineOrBad found n
 front_fine found zero = inl (record { each = All-nil (λ line. IsSome line); one_lattice = omega arith })
@@ -43,16 +43,16 @@ front_fine found (suc n) = by (front_fine found n) (fine_decided (take (n + 1) f
     next : n + 1 ≡ suc n
     next = omega arith
 
-    by : IsFineOrBad found n → Decided (AreFine (take (n + 1) found)) → IsFineOrBad found (suc n)
+    by : IsFineOrBad found n → Decided (AreFineSitesLines (take (n + 1) found)) → IsFineOrBad found (suc n)
     by (inr bad) more = inr bad
-    by (inl fine) (inl more) = inl (subst (λ k. AreFine (take k found)) next more)
+    by (inl fine) (inl more) = inl (subst (λ k. AreFineSitesLines (take k found)) next more)
     by (inl fine) (inr never) = inr (n, record { before = fine; here = never })
 
-pub fine_or_bad : (found : List (Option SitesLine)) → AreFine found ⊎ ((i : ℕ) × IsFirstBad found i)
+pub fine_or_bad : (found : List (Option SitesLine)) → AreFineSitesLines found ⊎ ((i : ℕ) × IsFirstBadLine found i)
 fine_or_bad found = by (front_fine found (length found))
   where
-    by : IsFineOrBad found (length found) → AreFine found ⊎ ((i : ℕ) × IsFirstBad found i)
-    by (inl fine) = inl (subst AreFine (take-length found) fine)
+    by : IsFineOrBad found (length found) → AreFineSitesLines found ⊎ ((i : ℕ) × IsFirstBadLine found i)
+    by (inl fine) = inl (subst AreFineSitesLines (take-length found) fine)
     by (inr bad) = inr bad
 
 -- the least number below n with P

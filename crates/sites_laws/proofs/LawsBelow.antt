@@ -7,7 +7,7 @@ use Rattle.sidb_layout.specs.Site.{IsInRange, IsFixInRange}
 use Rattle.sidb_layout.specs.Layout.{Arrangement}
 use Rattle.sidb_layout.specs.Refusal.{IsMadeOf}
 use Rattle.sqd_layout.specs.declared.sites.line.SitesLine.{SitesLine}
-use Rattle.sqd_layout.specs.SitesLines.{sites_of, fixes_of}
+use Rattle.sqd_layout.specs.SitesLines.{sites_in_lines, fixes_of}
 use Rattle.sqd_layout.specs.SitesFaults.{IsClear}
 use Rattle.sites_laws.proofs.Decided.{Decided}
 
@@ -16,4 +16,4 @@ pub record AreLaws : Type 0 where
   pub site_decided : (s : Site) → Decided (IsInRange s)
   pub fix_decided : (f : Fix) → Decided (IsFixInRange f)
   pub same_decided : (a b : Site) → Decided (a ≡ b)
-  pub layout_of_clear : (v : Lattice) (ls : List SitesLine) → IsClear v ls → (p : Arrangement) × IsMadeOf v (sites_of ls) (fixes_of ls) p
+  pub layout_of_clear : (v : Lattice) (ls : List SitesLine) → IsClear v ls → (p : Arrangement) × IsMadeOf v (sites_in_lines ls) (fixes_of ls) p

@@ -1,7 +1,7 @@
 -- drawings worked by hand
 use Rattle.std.proofs.Common.{◌≡◌, refl, ℕ, pos, List, [], ◌∷◌, true}
 use Rattle.std.specs.Prelude.{codes}
-use Rattle.sqd_marks.specs.Marks.{Mark, start, empty, close, Tag, Attribute}
+use Rattle.sqd_marks.specs.Marks.{TextMark, start, empty, close, Tag, Attribute}
 use Rattle.sqd_nesting.specs.Texts.{Item, IsWhole}
 use Rattle.sqd_elements.specs.Elements.{Element, element_at, elements}
 use Rattle.sqd_dots.specs.declared.drawing.Dot.{Dot}
@@ -22,7 +22,7 @@ latcoord = record {
   after = [];
 }
 
-abbrev item : Mark → Item
+abbrev item : TextMark → Item
 item mark = record { text = []; mark = mark }
 
 abbrev opens : List ℕ → Item

@@ -2,8 +2,8 @@
 use Rattle.std.proofs.Common.{◌≡◌, ◌∙◌, refl, sym, ap, subst, ℕ, ◌+◌, length, List, [], ◌∷◌, ◌++◌, map, reverse, Option, Some, None, true, false}
 use Rattle.std.specs.Prelude.{slice_get}
 use Rattle.std.proofs.lemmas.List.{reverse-append}
-use Rattle.sqd_marks.specs.Marks.{Mark, start, empty, close, comment, declaration, doctype, cdata}
-use Rattle.sqd_nesting.specs.Texts.{Item, item_bytes, Nest, Opened, IsOutside, Turns, Nested, IsWhole, mark_len, at_first}
+use Rattle.sqd_marks.specs.Marks.{TextMark, start, empty, close, comment, declaration, doctype, cdata}
+use Rattle.sqd_nesting.specs.Texts.{Item, item_bytes, Nest, Opened, IsOutsideRoot, Turns, Nested, IsWhole, mark_len, at_first}
 use Rattle.sqd_dots.specs.declared.drawing.Dot.{Dot}
 use Rattle.sqd_dots.specs.declared.tally.Tally.{Tally}
 use Rattle.sqd_elements.specs.Elements.{Element, elements_of, without_nearest}
@@ -19,7 +19,7 @@ open_names opened = map (λ o. o.name) (reverse opened)
 one_open : (old new : List Opened) (o : Opened) → new ≡ old ++ o ∷ [] → open_names new ≡ o.name ∷ open_names old
 one_open old new o h = ap open_names h ∙ ap (λ os. map (λ x. x.name) os) (reverse-append old (o ∷ []))
 
-closes_by : (at : ℕ) (text : List ℕ) (m : Mark) (items : List Item) (old next : Nest) → Turns at m old next → Closes (open_names next.opened) items → Closes (open_names old.opened) (record { text = text; mark = m } ∷ items)
+closes_by : (at : ℕ) (text : List ℕ) (m : TextMark) (items : List Item) (old next : Nest) → Turns at m old next → Closes (open_names next.opened) items → Closes (open_names old.opened) (record { text = text; mark = m } ∷ items)
 closes_by at text (start tag) items old next h c = subst (λ names. Closes names items) (one_open old.opened next.opened _ h.1.opened) c
 closes_by at text (empty tag) items old next h c = subst (λ os. Closes (open_names os) items) h.1.opened c
 closes_by at text (close name after) items old next h c =
@@ -31,7 +31,7 @@ closes_by at text (declaration inner) items old next h c = subst (λ n. Closes (
 closes_by at text doctype items old next h c = absurd h
 closes_by at text cdata items old next h c = absurd h
 
-nested_closes : (at : ℕ) (old : Nest) (items : List Item) (new : Nest) → Nested at old items new → IsOutside new → Closes (open_names old.opened) items
+nested_closes : (at : ℕ) (old : Nest) (items : List Item) (new : Nest) → Nested at old items new → IsOutsideRoot new → Closes (open_names old.opened) items
 nested_closes at old [] new h out = ap (λ n. open_names n.opened) h ∙ ap open_names out
 nested_closes at old (i ∷ items) new h out = closes_by (at + length i.text) i.text i.mark items old h.0 h.1.turns (nested_closes (at + length (item_bytes i)) h.0 items new h.2 out)
 

@@ -3,8 +3,8 @@ use Rattle.std.specs.Prelude.{◌≡◌, ℕ, List, [], ◌∷◌, ◌++◌, map
 use Rattle.sqd_marks.specs.Marks.{start, empty, close, Tag}
 use Rattle.sqd_nesting.specs.Texts.{Item}
 use Rattle.sqd_elements.specs.declared.kept.Inside.{Inside}
-use Rattle.sqd_dots.specs.declared.levels.Level.{Level}
-use Rattle.sqd_dots.specs.declared.levels.Levels.{Levels}
+use Rattle.sqd_dots.specs.declared.levels.OpenElement.{OpenElement}
+use Rattle.sqd_dots.specs.declared.levels.OpenElements.{OpenElements}
 use Rattle.sqd_elements.specs.Elements.{without_nearest}
 
 -- the name of an element around, and what is inside it behind the place
@@ -17,16 +17,16 @@ abbrev pub tier_named : List ℕ → Inside → Tier
 tier_named name inside = record { name = name; inside = inside }
 
 -- a level without where its name lies
-abbrev pub tier_of : Level → Tier
+abbrev pub tier_of : OpenElement → Tier
 tier_of l = tier_named l.name.now l.inside
 
 -- the levels, the nearest first
-abbrev pub tiers_of : Levels → List Tier
+abbrev pub tiers_of : OpenElements → List Tier
 tiers_of ls = tier_of ls.inner ∷ map tier_of (reverse ls.outer.items)
 
 -- their names
-abbrev pub names_of : List Tier → List (List ℕ)
-names_of tiers = map (λ t. t.name) tiers
+abbrev pub tier_names : List Tier → List (List ℕ)
+tier_names tiers = map (λ t. t.name) tiers
 
 -- what is inside each
 abbrev pub insides_of : List Tier → List Inside

@@ -2,7 +2,7 @@
 ghost use Rattle.std.specs.Prelude.{◌≡◌, ℕ, List, [], ◌∷◌, ◌++◌, OnOk};
 ghost use Rattle.sqd_dots.specs.Dots.{is_layer as is_design_layer};
 ghost use Rattle.sqd_elements.specs.Kept.{inside_of, both};
-ghost use Rattle.sqd_dots.specs.Levels.{Tier, tier_named, tiers_of, names_of};
+ghost use Rattle.sqd_dots.specs.Levels.{Tier, tier_named, tiers_of, tier_names};
 
 use sidb_units::Memory;
 use sqd_elements::Inside;
@@ -10,25 +10,25 @@ use std::alloc::Global;
 
 /// An element around a place: the name of its end mark, and what is inside it behind the place.
 #[derive(Clone, Copy)]
-pub struct Level<'a> {
+pub struct OpenElement<'a> {
     pub name: &'a [u8],
     pub inside: Inside,
 }
 
 /// The elements around a place: the nearest, and the others, the root's surroundings first.
 #[derive(Drop)]
-pub struct Levels<'a> {
-    pub inner: Level<'a>,
-    pub outer: Vec<Level<'a>>,
+pub struct OpenElements<'a> {
+    pub inner: OpenElement<'a>,
+    pub outer: Vec<OpenElement<'a>>,
 }
 
-impl<'a> Levels<'a> {
+impl<'a> OpenElements<'a> {
     /// Outside the root.
-    pub fn outside(alloc: Global) -> Levels<'a>
+    pub fn outside(alloc: Global) -> OpenElements<'a>
         ensures { tiers_of result ≡ tier_named [] (inside_of []) ∷ [] }
     {
-        Levels {
-            inner: Level {
+        OpenElements {
+            inner: OpenElement {
                 name: b"",
                 inside: Inside::nothing(),
             },
@@ -42,7 +42,7 @@ impl<'a> Levels<'a> {
             (tiers_of self.new ≡ tier_named name.now (inside_of []) ∷ tiers_of self.old) }
     {
         self.outer.push(self.inner)?;
-        self.inner = Level {
+        self.inner = OpenElement {
             name,
             inside: Inside::nothing(),
         };
@@ -71,7 +71,7 @@ impl<'a> Levels<'a> {
 
     /// Whether the nearest element is a design layer.
     pub fn is_layer(&self) -> bool
-        ensures { (around : List (List ℕ)) → names_of (tiers_of self.now) ≡ around ++ [] ∷ []
+        ensures { (around : List (List ℕ)) → tier_names (tiers_of self.now) ≡ around ++ [] ∷ []
             → result ≡ is_design_layer around }
     {
         if self.outer.len() != 3 {

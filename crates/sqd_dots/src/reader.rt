@@ -5,36 +5,36 @@ ghost use Rattle.std.specs.List.{AllByRecursion};
 ghost use Rattle.sqd_marks.specs.Marks.{Tag};
 ghost use Rattle.sqd_nesting.specs.Texts.{Item, IsItem};
 ghost use Rattle.sqd_nesting.specs.Views.{ShowAll};
-ghost use Rattle.sqd_nesting.specs.declared.read.Found.{Found};
+ghost use Rattle.sqd_nesting.specs.declared.read.PlacedMark.{PlacedMark};
 ghost use Rattle.sqd_elements.specs.Elements.{Element, element_at, elements};
 ghost use Rattle.sqd_elements.specs.Kept.{sort_in, inside_of};
 ghost use Rattle.sqd_dots.specs.Levels.{Closes};
 ghost use Rattle.sqd_dots.specs.States.{IsTally, IsAt, HasRead};
 
-use crate::levels::Levels;
+use crate::levels::OpenElements;
 use crate::tally::Tally;
 use sidb_units::Memory;
 use sqd_elements::laws::{kept_of_both, kept_of_one};
 use sqd_elements::{Inside, Sort, sort_of};
 use sqd_marks::{Kind, end_name};
-use sqd_nesting::Found;
+use sqd_nesting::PlacedMark;
 use std::alloc::Global;
 
 /// What is known at a place of all that stands behind it.
 #[derive(Drop)]
-pub struct Reader<'a> {
-    pub levels: Levels<'a>,
+pub struct DotsReader<'a> {
+    pub levels: OpenElements<'a>,
     pub tally: Tally,
 }
 
-impl<'a> Reader<'a> {
+impl<'a> DotsReader<'a> {
     /// Stands at the end of the text.
-    pub fn at_end(alloc: Global) -> Reader<'a>
+    pub fn at_end(alloc: Global) -> DotsReader<'a>
         ensures read { HasRead result [] }
         ensures none { result.tally.skipped ≡ 0 }
     {
-        Reader {
-            levels: Levels::outside(alloc),
+        DotsReader {
+            levels: OpenElements::outside(alloc),
             tally: Tally::nothing(alloc),
         }
     }
@@ -57,9 +57,9 @@ impl<'a> Reader<'a> {
     }
 
     /// Goes before a mark.
-    fn take(&mut self, mark: &Found<'a>) -> Result<(), Memory>
+    fn take(&mut self, mark: &PlacedMark<'a>) -> Result<(), Memory>
         requires { self.old.tally.skipped + 1 < 2 ^ 64 }
-        ensures read { (found : List Found) → HasRead self.old found
+        ensures read { (found : List PlacedMark) → HasRead self.old found
             → OnOk result (HasRead self.new (mark.now ∷ found)) }
         ensures few { self.new.tally.skipped ≤ self.old.tally.skipped + 1 }
     {
@@ -76,17 +76,17 @@ impl<'a> Reader<'a> {
 }
 
 /// The tally of all elements that the marks of a text begin.
-pub fn tally_of(alloc: Global, marks: &[Found]) -> Result<Tally, Memory>
+pub fn tally_of(alloc: Global, marks: &[PlacedMark]) -> Result<Tally, Memory>
     ensures { (at : ℕ) (items : List Item) → ShowAll at marks.now items
         → AllByRecursion IsItem items → Closes [] items
         → IfOk result (λ tally. IsTally tally (elements at [] items)) }
 {
-    let mut reader = Reader::at_end(alloc);
+    let mut reader = DotsReader::at_end(alloc);
     let mut k = marks.len();
     while k > 0 {
         k -= 1;
         reader.take(&marks[k])?;
     }
-    let Reader { levels: _, tally } = reader;
+    let DotsReader { levels: _, tally } = reader;
     Ok(tally)
 }

@@ -2,7 +2,7 @@
 use Rattle.std.proofs.Common.{◌≡◌, refl, ℕ, pos, negsuc, List, [], ◌∷◌, Some}
 use Rattle.std.specs.Prelude.{codes}
 use Rattle.sidb_layout.specs.declared.site.Site.{Site}
-use Rattle.sqd_marks.specs.Marks.{Mark, start, empty, close, comment, Tag, Attribute}
+use Rattle.sqd_marks.specs.Marks.{TextMark, start, empty, close, comment, Tag, Attribute}
 use Rattle.sqd_nesting.specs.Texts.{Item}
 use Rattle.sqd_elements.specs.declared.kept.Sort.TheVariants as sorts
 use Rattle.sqd_elements.specs.Numbers.{number_in}
@@ -54,7 +54,7 @@ any_other : sort_in (plain (codes "Dbdot")) ≡ sorts.Other
 any_other = refl
 
 -- the elements of `<a><b>x<c/></b><!--<d/>--></a>`, the first byte of which has the number 3
-abbrev item : List ℕ → Mark → Item
+abbrev item : List ℕ → TextMark → Item
 item text mark = record { text = text; mark = mark }
 
 abbrev element : ℕ → List (List ℕ) → List ℕ → List Tag → Element

@@ -4,7 +4,7 @@ use Rattle.std.specs.List.{list_any}
 use Rattle.std.specs.Str.{bytes_eq}
 use Rattle.sidb_layout.specs.declared.site.Site.{Site}
 use Rattle.sqd_marks.specs.Marks.{Tag}
-use Rattle.sqd_marks.specs.Tags.{value_of}
+use Rattle.sqd_marks.specs.Tags.{attribute_value}
 use Rattle.sqd_elements.specs.Numbers.{number_in}
 
 -- whether a tag is that of a dot
@@ -17,7 +17,7 @@ is_latcoord tag = bytes_eq tag.name (codes "latcoord")
 
 -- the whole number that a tag gives under this name
 abbrev pub coordinate_in : List ℕ → Tag → Option ℤ
-coordinate_in name tag = option_and_then number_in (value_of name tag.attributes)
+coordinate_in name tag = option_and_then number_in (attribute_value name tag.attributes)
 
 -- the site of three numbers, where all are there
 abbrev pub site_from : Option ℤ → Option ℤ → Option ℤ → Option Site

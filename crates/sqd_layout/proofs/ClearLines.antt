@@ -12,12 +12,12 @@ use Rattle.sidb_layout.specs.Layout.{Arrangement}
 use Rattle.sidb_layout.specs.Refusal.{IsTooClose, AreFew, AreDistinct, IsMadeOf}
 use Rattle.sqd_layout.specs.declared.sites.line.SitesLine.{SitesLine}
 use Rattle.sqd_layout.specs.declared.sites.line.SitesLine.TheVariants.{Empty, Place, Charge, Lattice}
-use Rattle.sqd_layout.specs.SitesLines.{place_in, place_on, sites_of, fixes_of}
+use Rattle.sqd_layout.specs.SitesLines.{place_in, place_on, sites_in_lines, fixes_of}
 use Rattle.sqd_layout.specs.SitesFaults.{IsLineInRange, AreLinesInRange, AreFewLines, HasNoClash, IsClear}
 
 -- the places that lines give, sites first
 abbrev given : List SitesLine → List Site
-given ls = places_of (sites_of ls) (fixes_of ls)
+given ls = places_of (sites_in_lines ls) (fixes_of ls)
 
 -- S holds in either direction
 abbrev IsTurned : (Site → Site → Type 0) → Type 0
@@ -59,7 +59,7 @@ all_given P (Empty ∷ ls) h = all_given P ls (λ k b w e. h (suc k) b (omega ar
 all_given P (Place s ∷ ls) h =
     All-cons P s (given ls) (h zero s (omega arith) refl) (all_given P ls (λ k b w e. h (suc k) b (omega arith) e))
 all_given P (Charge f ∷ ls) h =
-    all_between P (sites_of ls) (places_of_fixes (fixes_of ls)) f.site (all_given P ls (λ k b w e. h (suc k) b (omega arith) e)) (h zero f.site (omega arith) refl)
+    all_between P (sites_in_lines ls) (places_of_fixes (fixes_of ls)) f.site (all_given P ls (λ k b w e. h (suc k) b (omega arith) e)) (h zero f.site (omega arith) refl)
 all_given P (Lattice v ∷ ls) h = all_given P ls (λ k b w e. h (suc k) b (omega arith) e)
 
 no_clash_behind : (R : Site → Site → Type 0) (l : SitesLine) (ls : List SitesLine) → HasNoClash R (l ∷ ls) → HasNoClash R ls
@@ -87,17 +87,17 @@ given_pairs R turned (Place s ∷ ls) none =
     (all_given (λ b. R s b → ⊥) ls (unrelated_first R s (Place s) ls refl none))
     (given_pairs R turned ls (no_clash_behind R (Place s) ls none))
 given_pairs R turned (Charge f ∷ ls) none =
-    pairs_between (λ a b. R a b → ⊥) (λ a b never r. never (turned b a r)) (sites_of ls) (places_of_fixes (fixes_of ls)) f.site
+    pairs_between (λ a b. R a b → ⊥) (λ a b never r. never (turned b a r)) (sites_in_lines ls) (places_of_fixes (fixes_of ls)) f.site
     (given_pairs R turned ls (no_clash_behind R (Charge f) ls none))
     (all_given (λ b. R f.site b → ⊥) ls (unrelated_first R f.site (Charge f) ls refl none))
 given_pairs R turned (Lattice v ∷ ls) none = given_pairs R turned ls (no_clash_behind R (Lattice v) ls none)
 
 -- the sites and the fixed charges of few enough lines in range
-sites_in_range : (ls : List SitesLine) → AreLinesInRange ls → All IsInRange (sites_of ls)
+sites_in_range : (ls : List SitesLine) → AreLinesInRange ls → All IsInRange (sites_in_lines ls)
 sites_in_range [] all = All-nil IsInRange
 sites_in_range (Empty ∷ ls) all = sites_in_range ls (All-tail IsLineInRange Empty ls all)
 sites_in_range (Place s ∷ ls) all =
-    All-cons IsInRange s (sites_of ls) (All-head IsLineInRange (Place s) ls all) (sites_in_range ls (All-tail IsLineInRange (Place s) ls all))
+    All-cons IsInRange s (sites_in_lines ls) (All-head IsLineInRange (Place s) ls all) (sites_in_range ls (All-tail IsLineInRange (Place s) ls all))
 sites_in_range (Charge f ∷ ls) all = sites_in_range ls (All-tail IsLineInRange (Charge f) ls all)
 sites_in_range (Lattice v ∷ ls) all = sites_in_range ls (All-tail IsLineInRange (Lattice v) ls all)
 
@@ -109,7 +109,7 @@ fixes_in_range (Charge f ∷ ls) all =
     All-cons IsFixInRange f (fixes_of ls) (All-head IsLineInRange (Charge f) ls all) (fixes_in_range ls (All-tail IsLineInRange (Charge f) ls all))
 fixes_in_range (Lattice v ∷ ls) all = fixes_in_range ls (All-tail IsLineInRange (Lattice v) ls all)
 
-few_places : (ls : List SitesLine) → AreFewLines ls → AreFew (sites_of ls) (fixes_of ls)
+few_places : (ls : List SitesLine) → AreFewLines ls → AreFew (sites_in_lines ls) (fixes_of ls)
 few_places ls few = record {
   in_range = record { all_sites = sites_in_range ls few.in_range; all_fixes = fixes_in_range ls few.in_range };
   few_sites = few.few_sites;
@@ -125,8 +125,8 @@ ClearPlacesMakeALayout = (v : CrystalLattice) (sites : List Site) (fixes : List 
     → AllPairs (λ a b. ¬ IsTooClose v a b) (places_of sites fixes) → (p : Arrangement) × IsMadeOf v sites fixes p
 
 pub clear_lines : HaveNoDirection → ClearPlacesMakeALayout → (v : CrystalLattice) (ls : List SitesLine) → IsClear v ls
-    → (p : Arrangement) × IsMadeOf v (sites_of ls) (fixes_of ls) p
+    → (p : Arrangement) × IsMadeOf v (sites_in_lines ls) (fixes_of ls) p
 clear_lines turned made v ls clear =
-    made v (sites_of ls) (fixes_of ls) (few_places ls clear.few)
+    made v (sites_in_lines ls) (fixes_of ls) (few_places ls clear.few)
     (given_pairs (λ a b. a ≡ b) (λ a b e. sym e) ls clear.distinct)
     (given_pairs (IsTooClose v) (λ a b close. omega (arith, turned v a b, close)) ls clear.apart)

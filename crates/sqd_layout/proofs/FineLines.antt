@@ -8,13 +8,13 @@ use Rattle.std.proofs.lemmas.List.Elements.{All-take, All-push, All-contains, Co
 use Rattle.std.proofs.lemmas.List.Sums.{sum_by-take-le, sum_by-append, sum_by-cons}
 use Rattle.sqd_layout.specs.declared.sites.line.SitesLine.{SitesLine}
 use Rattle.sqd_layout.specs.SitesLines.{is_lattice}
-use Rattle.sqd_layout.specs.SitesFaults.{AreFine, IsFirstBad}
+use Rattle.sqd_layout.specs.SitesFaults.{AreFineSitesLines, IsFirstBadLine}
 
 -- 1 for a line `lattice`, and else 0
 abbrev pub count_of : Option SitesLine → ℕ
 count_of line = cond (is_lattice line) 1 0
 
-pub fine_front : (found : List (Option SitesLine)) (n : ℕ) → AreFine found → AreFine (take n found)
+pub fine_front : (found : List (Option SitesLine)) (n : ℕ) → AreFineSitesLines found → AreFineSitesLines (take n found)
 fine_front found n fine = record {
   each = All-take (λ line. IsSome line) n found fine.each;
   one_lattice = omega (arith, sum_by-take-le count_of found n, fine.one_lattice);
@@ -22,10 +22,10 @@ fine_front found n fine = record {
 
 -- where a line is wrong behind fine ones, it is the first bad one
 pub first_bad : (found before more : List (Option SitesLine)) (line : Option SitesLine)
-    → found ≡ before ++ line ∷ more → AreFine before → ¬ AreFine (before ++ line ∷ []) → IsFirstBad found (length before)
+    → found ≡ before ++ line ∷ more → AreFineSitesLines before → ¬ AreFineSitesLines (before ++ line ∷ []) → IsFirstBadLine found (length before)
 first_bad found before more line is fine wrong = record {
-  before = subst AreFine (sym (ap (take (length before)) is ∙ take-append_seam before (line ∷ more))) fine;
-  here = λ h. wrong (subst AreFine (ap (take (length before + 1)) is ∙ take-append-add before (line ∷ more) 1) h);
+  before = subst AreFineSitesLines (sym (ap (take (length before)) is ∙ take-append_seam before (line ∷ more))) fine;
+  here = λ h. wrong (subst AreFineSitesLines (ap (take (length before + 1)) is ∙ take-append-add before (line ∷ more) 1) h);
 }
 
 -- the lines that are there are all lines
@@ -60,14 +60,14 @@ one_counted (l ∷ ls) h =
 count_push : (found : List (Option SitesLine)) (line : Option SitesLine) → count_by is_lattice (found ++ line ∷ []) ≡ count_by is_lattice found + count_of line
 count_push found line = omega (arith, sum_by-append count_of found (line ∷ []))
 
-more_fine : (found : List (Option SitesLine)) (line : SitesLine) → AreFine found → count_by is_lattice found + count_of (Some line) ≤ 1 → AreFine (found ++ Some line ∷ [])
+more_fine : (found : List (Option SitesLine)) (line : SitesLine) → AreFineSitesLines found → count_by is_lattice found + count_of (Some line) ≤ 1 → AreFineSitesLines (found ++ Some line ∷ [])
 more_fine found line fine few = record {
   each = All-push (λ l. IsSome l) found (Some line) fine.each refl;
   one_lattice = omega (arith, count_push found (Some line), few);
 }
 
 -- a line that is no line `lattice`
-pub fine_plain : (found : List (Option SitesLine)) (line : SitesLine) → AreFine found → is_lattice (Some line) ≡ false → AreFine (found ++ Some line ∷ [])
+pub fine_plain : (found : List (Option SitesLine)) (line : SitesLine) → AreFineSitesLines found → is_lattice (Some line) ≡ false → AreFineSitesLines (found ++ Some line ∷ [])
 fine_plain found line fine plain =
     let none : count_of (Some line) ≡ 0 = ap (λ b. cond b 1 0) plain in
     more_fine found line fine (omega (arith, none, fine.one_lattice))
@@ -77,18 +77,18 @@ at_most_one true = omega arith
 at_most_one false = omega arith
 
 -- a line behind lines without a line `lattice`
-pub fine_first : (ls : List SitesLine) (line : SitesLine) → AreFine (map Some ls) → has_one ls ≡ false → AreFine (map Some ls ++ Some line ∷ [])
+pub fine_first : (ls : List SitesLine) (line : SitesLine) → AreFineSitesLines (map Some ls) → has_one ls ≡ false → AreFineSitesLines (map Some ls ++ Some line ∷ [])
 fine_first ls line fine none =
     more_fine (map Some ls) line fine (omega (arith, none_counted ls none, at_most_one (is_lattice (Some line))))
 
 -- a second line `lattice`
-pub bad_second : (ls : List SitesLine) (line : SitesLine) → has_one ls ≡ true → is_lattice (Some line) ≡ true → ¬ AreFine (map Some ls ++ Some line ∷ [])
+pub bad_second : (ls : List SitesLine) (line : SitesLine) → has_one ls ≡ true → is_lattice (Some line) ≡ true → ¬ AreFineSitesLines (map Some ls ++ Some line ∷ [])
 bad_second ls line some lattice fine =
     let one : count_of (Some line) ≡ 1 = ap (λ b. cond b 1 0) lattice in
     omega (arith, one, one_counted ls some, count_push (map Some ls) (Some line), fine.one_lattice)
 
 -- what is no line
-pub bad_none : (found : List (Option SitesLine)) (line : Option SitesLine) → line ≡ None → ¬ AreFine (found ++ line ∷ [])
+pub bad_none : (found : List (Option SitesLine)) (line : Option SitesLine) → line ≡ None → ¬ AreFineSitesLines (found ++ line ∷ [])
 bad_none found line is fine =
     let there = All-contains (λ l. IsSome l) (found ++ line ∷ []) line fine.each (Contains-push found line) in
     false≢true (subst IsSome is there)

@@ -8,7 +8,7 @@ use Rattle.sidb_layout.specs.declared.fault.LayoutFault.{LayoutFault}
 use Rattle.sidb_layout.specs.declared.fault.LayoutFault.TheVariants as refusals
 use Rattle.sidb_layout.specs.Lattice.{silicon}
 use Rattle.sidb_layout.specs.Layout.{Arrangement}
-use Rattle.sidb_layout.specs.Refusal.{IsMadeOf, IsRefusal}
+use Rattle.sidb_layout.specs.Refusal.{IsMadeOf, IsLayoutRefusal}
 use Rattle.sqd_dots.specs.declared.drawing.Dot.{Dot}
 use Rattle.sqd_dots.specs.Drawings.{IsDrawing, IsDrawingFault}
 use Rattle.sqd_scan.specs.declared.fault.SqdFault.{SqdFault}
@@ -29,10 +29,10 @@ abbrev pub OneLayout : Type 0
 OneLayout = (v : Lattice) (sites : List Site) (fixes : List Fix) (p q : Arrangement) → IsMadeOf v sites fixes p → IsMadeOf v sites fixes q → p ≡ q
 
 abbrev pub OneRefusal : Type 0
-OneRefusal = (v : Lattice) (sites : List Site) (fixes : List Fix) (f g : LayoutFault) → IsRefusal v sites fixes f → IsRefusal v sites fixes g → f ≡ g
+OneRefusal = (v : Lattice) (sites : List Site) (fixes : List Fix) (f g : LayoutFault) → IsLayoutRefusal v sites fixes f → IsLayoutRefusal v sites fixes g → f ≡ g
 
 abbrev pub NoRefusal : Type 0
-NoRefusal = (v : Lattice) (sites : List Site) (fixes : List Fix) (p : Arrangement) (f : LayoutFault) → IsMadeOf v sites fixes p → IsRefusal v sites fixes f → ⊥
+NoRefusal = (v : Lattice) (sites : List Site) (fixes : List Fix) (p : Arrangement) (f : LayoutFault) → IsMadeOf v sites fixes p → IsLayoutRefusal v sites fixes f → ⊥
 
 pub one_drawn_layout : OneDrawing → OneLayout → (text : List ℕ) (p q : Arrangement) (j k : ℕ) → IsSqdText text p j → IsSqdText text q k → (p ≡ q) × (j ≡ k)
 one_drawn_layout drawing layout text p q j k h g =

@@ -14,8 +14,8 @@ use Rattle.sqd_layout.specs.declared.sites.line.Vectors.{Vectors}
 use Rattle.sqd_layout.specs.declared.sites.line.SitesLine.{SitesLine}
 use Rattle.sqd_scan.specs.declared.fault.SqdFault.{SqdFault}
 use Rattle.sqd_scan.specs.declared.fault.SqdFault.TheVariants.{BadLine, OutOfRange, TooMany, TooManyFixes, Duplicate, TooClose}
-use Rattle.sqd_layout.specs.SitesLines.{lines_in, lines_of, vectors_of}
-use Rattle.sqd_layout.specs.SitesFaults.{AreFine, IsFirstBad, IsLineInRange, AreLinesInRange, HasTheseVectors, IsLatticeOf, HasNoClash, IsFirstClash, AtLine, AtLines, IsLinesFault, IsLayoutOf, IsSitesText, IsSitesFault}
+use Rattle.sqd_layout.specs.SitesLines.{lines_in, sites_lines_of, vectors_of}
+use Rattle.sqd_layout.specs.SitesFaults.{AreFineSitesLines, IsFirstBadLine, IsLineInRange, AreLinesInRange, HasTheseVectors, IsLatticeOf, HasNoClash, IsFirstClash, AtLine, AtLines, IsLinesFault, IsLayoutOf, IsSitesText, IsSitesFault}
 use Rattle.sqd_layout.proofs.FineLines.{fine_front}
 
 -- a lattice of these vectors
@@ -95,12 +95,12 @@ take_less [] i (suc j) l = refl
 take_less (x ∷ xs) zero (suc j) l = refl
 take_less (x ∷ xs) (suc i) (suc j) l = ap (λ r. x ∷ r) (take_less xs i j (omega arith))
 
-fine_before : (found : List (Option SitesLine)) (i j : ℕ) → i < j → AreFine (take j found) → AreFine (take (i + 1) found)
+fine_before : (found : List (Option SitesLine)) (i j : ℕ) → i < j → AreFineSitesLines (take j found) → AreFineSitesLines (take (i + 1) found)
 fine_before found i j l fine =
     let next : i + 1 ≡ suc i = omega arith in
-    rw next (subst AreFine (take_less found i j l) (fine_front (take j found) (suc i) fine))
+    rw next (subst AreFineSitesLines (take_less found i j l) (fine_front (take j found) (suc i) fine))
 
-one_bad : (found : List (Option SitesLine)) (i j : ℕ) → IsFirstBad found i → IsFirstBad found j → i ≡ j
+one_bad : (found : List (Option SitesLine)) (i j : ℕ) → IsFirstBadLine found i → IsFirstBadLine found j → i ≡ j
 one_bad found i j f g = by (cases_order i j)
   where
     by : (i ≡ j) ⊎ ((i < j) ⊎ (j < i)) → i ≡ j
@@ -197,14 +197,14 @@ lines_no_fault ls p _ h f = f
 -- a fault of a text is a bad line, or one of fine lines
 abbrev IsBadOrLines : List ℕ → SqdFault → Type 0
 IsBadOrLines text f =
-    ((k : ℕ) × (f ≡ BadLine k) × AtLine (IsFirstBad (lines_in text)) k)
-    ⊎ (AreFine (lines_in text) × IsLinesFault (lines_of text) f)
+    ((k : ℕ) × (f ≡ BadLine k) × AtLine (IsFirstBadLine (lines_in text)) k)
+    ⊎ (AreFineSitesLines (lines_in text) × IsLinesFault (sites_lines_of text) f)
 
 bad_or_lines : (text : List ℕ) (f : SqdFault) → IsSitesFault text f → IsBadOrLines text f
 bad_or_lines text (BadLine k) h = inl (k, refl, h)
 bad_or_lines text f h = inr h
 
-no_bad : (text : List ℕ) (k : ℕ) → AreFine (lines_in text) → AtLine (IsFirstBad (lines_in text)) k → ⊥
+no_bad : (text : List ℕ) (k : ℕ) → AreFineSitesLines (lines_in text) → AtLine (IsFirstBadLine (lines_in text)) k → ⊥
 no_bad text k fine (i, e, f) = f.here (fine_front (lines_in text) (i + 1) fine)
 
 pub one_fault : (text : List ℕ) (f g : SqdFault) → IsSitesFault text f → IsSitesFault text g → f ≡ g
@@ -212,14 +212,14 @@ one_fault text f g h k = by (bad_or_lines text f h) (bad_or_lines text g k)
   where
     by : IsBadOrLines text f → IsBadOrLines text g → f ≡ g
     by (inl (a, e, bad)) (inl (b, e', bad')) =
-        e ∙ (ap BadLine (one_number (IsFirstBad (lines_in text)) (one_bad (lines_in text)) a b bad bad') ∙ sym e')
+        e ∙ (ap BadLine (one_number (IsFirstBadLine (lines_in text)) (one_bad (lines_in text)) a b bad bad') ∙ sym e')
     by (inl (a, e, bad)) (inr (fine, lines)) = absurd (no_bad text a fine bad)
     by (inr (fine, lines)) (inl (b, e, bad)) = absurd (no_bad text b fine bad)
-    by (inr (fine, lines)) (inr (fine', lines')) = lines_one_fault (lines_of text) f g lines lines'
+    by (inr (fine, lines)) (inr (fine', lines')) = lines_one_fault (sites_lines_of text) f g lines lines'
 
 pub no_fault : (text : List ℕ) (p : Arrangement) (f : SqdFault) → IsSitesText text p → IsSitesFault text f → ⊥
 no_fault text p f h k = by (bad_or_lines text f k)
   where
     by : IsBadOrLines text f → ⊥
     by (inl (a, e, bad)) = no_bad text a h.fine bad
-    by (inr (fine, lines)) = lines_no_fault (lines_of text) p f h.layout lines
+    by (inr (fine, lines)) = lines_no_fault (sites_lines_of text) p f h.layout lines

@@ -15,7 +15,7 @@ use Rattle.sqd_scan.specs.declared.fault.SqdFault.TheVariants.{BadMark, Memory, 
 use Rattle.sqd_dots.specs.declared.drawing.Dot.{Dot}
 use Rattle.sqd_layout.specs.DotsFaults.{BeginsAt, IsDotsFault, IsSqdText}
 use Rattle.sqd_layout.specs.SitesLines.{line_in}
-use Rattle.sqd_layout.specs.SitesFaults.{AreFine, IsLineInRange, IsLatticeOf, IsClear, IsFirstClash, IsSitesText, IsSitesFault}
+use Rattle.sqd_layout.specs.SitesFaults.{AreFineSitesLines, IsLineInRange, IsLatticeOf, IsClear, IsFirstClash, IsSitesText, IsSitesFault}
 use Rattle.sqd_layout.proofs.FineLines.{bad_none}
 
 -- no lines
@@ -38,7 +38,7 @@ comment_behind = refl
 not_fine : (p : Arrangement) → IsSitesText (codes "0 0") p → ⊥
 not_fine p h = bad_none [] None refl h.fine
 
-two_lattices : (v w : Vectors) → AreFine (Some (Lattice v) ∷ Some (Lattice w) ∷ []) → ⊥
+two_lattices : (v w : Vectors) → AreFineSitesLines (Some (Lattice v) ∷ Some (Lattice w) ∷ []) → ⊥
 two_lattices v w h = omega (arith, h.one_lattice)
 
 too_far : IsLineInRange (Place (record { n = pos 5001; m = pos 0; l = pos 0 })) → ⊥

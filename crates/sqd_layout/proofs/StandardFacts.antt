@@ -17,8 +17,8 @@ use Rattle.sqd_layout.specs.DotsFaults.{IsDotsFault, IsSqdText, IsSqdFault}
 use Rattle.sqd_layout.specs.declared.sites.line.SitesLine.{SitesLine}
 use Rattle.sqd_layout.specs.declared.sites.line.SitesLine.TheVariants.{Empty, Place, Charge}
 use Rattle.sqd_scan.specs.declared.fault.SqdFault.TheVariants.{BadLine, NotSiqad, Duplicate}
-use Rattle.sqd_layout.specs.SitesLines.{line_in, lines_of}
-use Rattle.sqd_layout.specs.SitesFaults.{AreFine, IsLineInRange, IsSitesText, IsSitesFault}
+use Rattle.sqd_layout.specs.SitesLines.{line_in, sites_lines_of}
+use Rattle.sqd_layout.specs.SitesFaults.{AreFineSitesLines, IsLineInRange, IsSitesText, IsSitesFault}
 use Rattle.sqd_layout.proofs.FineLines.{bad_none}
 
 -- lines, also behind a carriage return, a tab and spaces
@@ -37,11 +37,11 @@ a_comment = refl
 a_blank : line_in (32 ∷ 9 ∷ 13 ∷ []) ≡ Some Empty
 a_blank = refl
 
-two_lines : lines_of (codes "0 0 0" ++ 10 ∷ codes "#") ≡ Place at_zero ∷ Empty ∷ []
+two_lines : sites_lines_of (codes "0 0 0" ++ 10 ∷ codes "#") ≡ Place at_zero ∷ Empty ∷ []
 two_lines = refl
 
 -- the empty text is the text of the layout without sites
-one_blank : AreFine (Some Empty ∷ [])
+one_blank : AreFineSitesLines (Some Empty ∷ [])
 one_blank = record { each = All-cons (λ line. IsSome line) (Some Empty) [] refl (All-nil (λ line. IsSome line)); one_lattice = omega arith }
 
 no_sites : IsMadeOf silicon [] [] (arrangement_of silicon [] [])

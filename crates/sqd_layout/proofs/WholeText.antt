@@ -10,8 +10,8 @@ use Rattle.sqd_layout.specs.declared.sites.line.SitesLine.{SitesLine}
 use Rattle.sqd_layout.specs.declared.sites.line.SitesLine.TheVariants.{Empty, Place, Charge, Lattice}
 use Rattle.sqd_scan.specs.declared.fault.SqdFault.{SqdFault}
 use Rattle.sqd_scan.specs.declared.fault.SqdFault.TheVariants.{BadLine, Memory}
-use Rattle.sqd_layout.specs.SitesLines.{line_in, lines_in, lines_of, vectors_of}
-use Rattle.sqd_layout.specs.SitesFaults.{AreFine, AreInReach, AreLinesInRange, IsLineInRange, IsLinesFault, IsLayoutOf, IsSitesText, IsSitesFault}
+use Rattle.sqd_layout.specs.SitesLines.{line_in, lines_in, sites_lines_of, vectors_of}
+use Rattle.sqd_layout.specs.SitesFaults.{AreFineSitesLines, AreInReach, AreLinesInRange, IsLineInRange, IsLinesFault, IsLayoutOf, IsSitesText, IsSitesFault}
 use Rattle.sqd_layout.proofs.FineLines.{first_bad, lines_back}
 
 -- the vectors of lines in range are those of a lattice
@@ -26,8 +26,8 @@ in_reach (Lattice v ∷ ls) w all e =
 
 -- a wrong line behind fine ones is the fault of the text
 pub wrong_line : (text : List ℕ) (ls : List SitesLine) (line : List ℕ) (more : List (Option SitesLine)) (fault : SqdFault)
-    → lines_in text ≡ map Some ls ++ line_in line ∷ more → AreFine (map Some ls)
-    → (fault ≡ Memory) ⊎ ((fault ≡ BadLine (length ls + 1)) × (¬ AreFine (map Some ls ++ line_in line ∷ [])))
+    → lines_in text ≡ map Some ls ++ line_in line ∷ more → AreFineSitesLines (map Some ls)
+    → (fault ≡ Memory) ⊎ ((fault ≡ BadLine (length ls + 1)) × (¬ AreFineSitesLines (map Some ls ++ line_in line ∷ [])))
     → (fault ≡ Memory) ⊎ IsSitesFault text fault
 wrong_line text ls line more fault is fine (inl e) = inl e
 wrong_line text ls line more fault is fine (inr (e, wrong)) =
@@ -35,27 +35,27 @@ wrong_line text ls line more fault is fine (inr (e, wrong)) =
     let bad = first_bad (lines_in text) (map Some ls) more (line_in line) is fine wrong in
     inr (subst (λ f. IsSitesFault text f) (sym e) (length (map Some ls), number, bad))
 
-pub lines_are : (text : List ℕ) (ls : List SitesLine) → lines_in text ≡ map Some ls → lines_of text ≡ ls
+pub lines_are : (text : List ℕ) (ls : List SitesLine) → lines_in text ≡ map Some ls → sites_lines_of text ≡ ls
 lines_are text ls is = ap (filter_map (λ line. line)) is ∙ lines_back ls
 
 -- a layout of the lines is one of the text
-pub text_layout : (text : List ℕ) (ls : List SitesLine) (p : Arrangement) → lines_in text ≡ map Some ls → AreFine (map Some ls)
+pub text_layout : (text : List ℕ) (ls : List SitesLine) (p : Arrangement) → lines_in text ≡ map Some ls → AreFineSitesLines (map Some ls)
     → IsLayoutOf ls p → IsSitesText text p
 text_layout text ls p is fine layout = record {
-  fine = subst AreFine (sym is) fine;
+  fine = subst AreFineSitesLines (sym is) fine;
   layout = subst (λ l. IsLayoutOf l p) (sym (lines_are text ls is)) layout;
 }
 
-both_facts : (text : List ℕ) (fault : SqdFault) → AreFine (lines_in text) → IsLinesFault (lines_of text) fault → IsSitesFault text fault
+both_facts : (text : List ℕ) (fault : SqdFault) → AreFineSitesLines (lines_in text) → IsLinesFault (sites_lines_of text) fault → IsSitesFault text fault
 both_facts text (BadLine k) fine h = absurd h
 both_facts text fault fine h = (fine, h)
 
 -- a fault of the lines is one of the text
-pub text_fault : (text : List ℕ) (ls : List SitesLine) (fault : SqdFault) → lines_in text ≡ map Some ls → AreFine (map Some ls)
+pub text_fault : (text : List ℕ) (ls : List SitesLine) (fault : SqdFault) → lines_in text ≡ map Some ls → AreFineSitesLines (map Some ls)
     → (fault ≡ Memory) ⊎ IsLinesFault ls fault → (fault ≡ Memory) ⊎ IsSitesFault text fault
 text_fault text ls fault is fine (inl e) = inl e
 text_fault text ls fault is fine (inr h) =
-    inr (both_facts text fault (subst AreFine (sym is) fine) (subst (λ l. IsLinesFault l fault) (sym (lines_are text ls is)) h))
+    inr (both_facts text fault (subst AreFineSitesLines (sym is) fine) (subst (λ l. IsLinesFault l fault) (sym (lines_are text ls is)) h))
 
 -- what follows for the value of an Ok
 pub if_ok : {T E : Type 0} (P Q : T → Type 0) (r : Result T E) → ((x : T) → P x → Q x) → IfOk r P → IfOk r Q

@@ -4,7 +4,7 @@ use Rattle.sidb_layout.specs.declared.site.Site.{Site}
 use Rattle.sidb_layout.specs.declared.fault.LayoutFault.TheVariants as refusals
 use Rattle.sidb_layout.specs.Lattice.{silicon}
 use Rattle.sidb_layout.specs.Layout.{Arrangement}
-use Rattle.sidb_layout.specs.Refusal.{IsMadeOf, IsRefusal}
+use Rattle.sidb_layout.specs.Refusal.{IsMadeOf, IsLayoutRefusal}
 use Rattle.sqd_dots.specs.declared.drawing.Dot.{Dot}
 use Rattle.sqd_dots.specs.Drawings.{IsDrawing, IsDrawingFault}
 use Rattle.sqd_scan.specs.declared.fault.SqdFault.{SqdFault}
@@ -29,10 +29,11 @@ AtDots dots P first second = AtDot dots (λ i. AtDot dots (λ j. P i j) second) 
 -- the faults of dots, in their order: each says that none before it comes
 abbrev pub IsDotsFault : List Dot → SqdFault → Type 0
 IsDotsFault dots (OutOfRange at) =
-    AtDot dots (λ i. IsRefusal silicon (sites_in dots) [] (refusals.OutOfRange i)) at
-IsDotsFault dots TooMany = IsRefusal silicon (sites_in dots) [] refusals.TooMany
+    AtDot dots (λ i. IsLayoutRefusal silicon (sites_in dots) [] (refusals.OutOfRange i)) at
+IsDotsFault dots TooMany = IsLayoutRefusal silicon (sites_in dots) [] refusals.TooMany
 IsDotsFault dots (Duplicate first second) =
-    AtDots dots (λ i j. IsRefusal silicon (sites_in dots) [] (refusals.Duplicate i j)) first second
+    AtDots dots (λ i j. IsLayoutRefusal silicon (sites_in dots) []
+    (refusals.Duplicate i j)) first second
 IsDotsFault dots _ = ⊥
 
 -- the text draws this layout on the default lattice, and skips so many items

@@ -12,17 +12,17 @@ use Rattle.sqd_layout.specs.declared.sites.line.SitesLine.{SitesLine}
 use Rattle.sqd_layout.specs.declared.sites.line.SitesLine.TheVariants.{Empty, Place, Charge, Lattice}
 use Rattle.sqd_scan.specs.declared.fault.SqdFault.{SqdFault}
 use Rattle.sqd_scan.specs.declared.fault.SqdFault.TheVariants.{BadLine, OutOfRange, TooMany, TooManyFixes, Duplicate, TooClose}
-use Rattle.sqd_layout.specs.SitesLines.{lines_in, lines_of, is_lattice, place_on, sites_of, fixes_of, vectors_of}
+use Rattle.sqd_layout.specs.SitesLines.{lines_in, sites_lines_of, is_lattice, place_on, sites_in_lines, fixes_of, vectors_of}
 
 -- each is a line, and at most one of them is a line `lattice`
-pub record AreFine (found : List (Option SitesLine)) : Type 0 where
+pub record AreFineSitesLines (found : List (Option SitesLine)) : Type 0 where
   pub each : All (λ line. IsSome line) found
   pub one_lattice : count_by is_lattice found ≤ 1
 
 -- i is the first, counted from 0, that is no line or is a second line `lattice`
-pub record IsFirstBad (found : List (Option SitesLine)) (i : ℕ) : Type 0 where
-  pub before : AreFine (take i found)
-  pub here : ¬ AreFine (take (i + 1) found)
+pub record IsFirstBadLine (found : List (Option SitesLine)) (i : ℕ) : Type 0 where
+  pub before : AreFineSitesLines (take i found)
+  pub here : ¬ AreFineSitesLines (take (i + 1) found)
 
 -- the vectors are those of a lattice
 abbrev pub AreInReach : Vectors → Type 0
@@ -46,7 +46,7 @@ AreLinesInRange ls = All IsLineInRange ls
 -- and there are few enough sites and fixed charges
 pub record AreFewLines (ls : List SitesLine) : Type 0 where
   pub in_range : AreLinesInRange ls
-  pub few_sites : length (sites_of ls) ≤ MAX_SITES
+  pub few_sites : length (sites_in_lines ls) ≤ MAX_SITES
   pub few_fixes : length (fixes_of ls) ≤ MAX_FIXED
 
 -- R relates the place on line i to the place on line j
@@ -85,7 +85,7 @@ pub record IsLayoutOf (ls : List SitesLine) (p : Arrangement) : Type 0 where
   pub lattice : CrystalLattice
   pub of_lines : IsLatticeOf ls lattice
   pub clear : IsClear lattice ls
-  pub made : IsMadeOf lattice (sites_of ls) (fixes_of ls) p
+  pub made : IsMadeOf lattice (sites_in_lines ls) (fixes_of ls) p
 
 -- line i has the number k, counted from 1
 abbrev pub AtLine : (ℕ → Type 0) → ℕ → Type 0
@@ -98,8 +98,8 @@ AtLines P k m = AtLine (λ i. AtLine (λ j. P i j) m) k
 -- the faults of lines, in their order: each says that none before it comes
 abbrev pub IsLinesFault : List SitesLine → SqdFault → Type 0
 IsLinesFault ls (OutOfRange k) = AtLine (IsFirstOutside IsLineInRange ls) k
-IsLinesFault ls TooMany = AreLinesInRange ls × (MAX_SITES < length (sites_of ls))
-IsLinesFault ls TooManyFixes = AreLinesInRange ls × (length (sites_of ls) ≤ MAX_SITES)
+IsLinesFault ls TooMany = AreLinesInRange ls × (MAX_SITES < length (sites_in_lines ls))
+IsLinesFault ls TooManyFixes = AreLinesInRange ls × (length (sites_in_lines ls) ≤ MAX_SITES)
     × (MAX_FIXED < length (fixes_of ls))
 IsLinesFault ls (Duplicate k m) = AreFewLines ls × AtLines (IsFirstClash (λ a b. a ≡ b) ls) k m
 IsLinesFault ls (TooClose k m) = AreFewLines ls × HasNoClash (λ a b. a ≡ b) ls
@@ -108,10 +108,11 @@ IsLinesFault ls _ = ⊥
 
 -- the text is a sites text of this layout
 pub record IsSitesText (text : List ℕ) (p : Arrangement) : Type 0 where
-  pub fine : AreFine (lines_in text)
-  pub layout : IsLayoutOf (lines_of text) p
+  pub fine : AreFineSitesLines (lines_in text)
+  pub layout : IsLayoutOf (sites_lines_of text) p
 
 -- the first fault of the text
 abbrev pub IsSitesFault : List ℕ → SqdFault → Type 0
-IsSitesFault text (BadLine k) = AtLine (IsFirstBad (lines_in text)) k
-IsSitesFault text fault = AreFine (lines_in text) × IsLinesFault (lines_of text) fault
+IsSitesFault text (BadLine k) = AtLine (IsFirstBadLine (lines_in text)) k
+IsSitesFault text fault = AreFineSitesLines (lines_in text)
+    × IsLinesFault (sites_lines_of text) fault

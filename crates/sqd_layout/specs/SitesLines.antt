@@ -12,7 +12,7 @@ use Rattle.sqd_layout.specs.declared.sites.line.Vector.{Vector}
 use Rattle.sqd_layout.specs.declared.sites.line.Vectors.{Vectors}
 use Rattle.sqd_layout.specs.declared.sites.line.SitesLine.{SitesLine}
 use Rattle.sqd_layout.specs.declared.sites.line.SitesLine.TheVariants.{Empty, Place, Charge, Lattice}
-use Rattle.sqd_layout.specs.SitesWords.{words}
+use Rattle.sqd_layout.specs.SitesWords.{sites_words}
 
 -- the place of three numbers, where all are there
 abbrev pub place_from : Option ℤ → Option ℤ → Option ℤ → Option Site
@@ -61,20 +61,20 @@ line_from (word ∷ more) = cond (slice_index word 0 == 35) (Some Empty) (conten
 
 -- the line that these bytes are, a carriage return at their end left out
 abbrev pub line_in : List ℕ → Option SitesLine
-line_in bytes = line_from (words (strip_carriage_return bytes))
+line_in bytes = line_from (sites_words (strip_carriage_return bytes))
 
 -- what stands between the line feeds of a text, each a line or not
 abbrev pub lines_in : List ℕ → List (Option SitesLine)
 lines_in text = map line_in (lines text)
 
 -- the lines of a text
-abbrev pub lines_of : List ℕ → List SitesLine
-lines_of text = filter_map (λ line. line) (lines_in text)
+abbrev pub sites_lines_of : List ℕ → List SitesLine
+sites_lines_of text = filter_map (λ line. line) (lines_in text)
 
 -- the site of a line
-abbrev pub site_in : SitesLine → Option Site
-site_in (Place site) = Some site
-site_in _ = None
+abbrev pub site_on_line : SitesLine → Option Site
+site_on_line (Place site) = Some site
+site_on_line _ = None
 
 -- the fixed charge of a line
 abbrev pub fix_in : SitesLine → Option Fix
@@ -98,8 +98,8 @@ is_lattice (Some (Lattice vectors)) = true
 is_lattice _ = false
 
 -- the sites, in the order of the lines
-abbrev pub sites_of : List SitesLine → List Site
-sites_of ls = filter_map site_in ls
+abbrev pub sites_in_lines : List SitesLine → List Site
+sites_in_lines ls = filter_map site_on_line ls
 
 -- the fixed charges, in the order of the lines
 abbrev pub fixes_of : List SitesLine → List Fix

@@ -7,5 +7,5 @@ abbrev pub is_gap : ℕ → Bool
 is_gap b = b == 32 || b == 9
 
 -- the words of a line: what stands between its spaces and tabs
-abbrev pub words : List ℕ → List (List ℕ)
-words line = filter (λ w. not (length w == 0)) (slice_split is_gap line)
+abbrev pub sites_words : List ℕ → List (List ℕ)
+sites_words line = filter (λ w. not (length w == 0)) (slice_split is_gap line)

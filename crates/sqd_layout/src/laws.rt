@@ -5,7 +5,7 @@ ghost use Rattle.sidb_layout.specs.Layout.{Arrangement};
 ghost use Rattle.sidb_layout.specs.Refusal.{IsMadeOf};
 ghost use Rattle.sqd_scan.specs.declared.fault.SqdFault.{SqdFault as FaultData};
 ghost use Rattle.sqd_layout.specs.declared.sites.line.SitesLine.{SitesLine};
-ghost use Rattle.sqd_layout.specs.SitesLines.{sites_of, fixes_of};
+ghost use Rattle.sqd_layout.specs.SitesLines.{sites_in_lines, fixes_of};
 ghost use Rattle.sqd_layout.specs.SitesFaults.{IsClear, IsSitesText, IsSitesFault};
 ghost use Rattle.sqd_layout.specs.DotsFaults.{IsSqdText, IsSqdFault};
 
@@ -62,7 +62,7 @@ pub fn no_sqd_fault()
 /// Lines without a fault give sites and fixed charges that make a layout.
 pub fn clear_lines_make_a_layout()
     ensures { (v : Lattice) (ls : List SitesLine) → IsClear v ls
-        → (p : Arrangement) × IsMadeOf v (sites_of ls) (fixes_of ls) p }
+        → (p : Arrangement) × IsMadeOf v (sites_in_lines ls) (fixes_of ls) p }
 {
     sidb_layout::laws::distances_have_no_direction();
     layout_laws::laws::clear_places_make_a_layout();

@@ -1,7 +1,7 @@
 //! Texts in the manner of SiQAD: elements, some of which are dots.
 ghost use Rattle.std.specs.Prelude.{◌≡◌, ◌≢◌, ◌⊎◌, ◌<◌, ℕ, List, [], length, IfOk, IfErr};
 ghost use Rattle.sidb_layout.specs.Lattice.{silicon};
-ghost use Rattle.sidb_layout.specs.Refusal.{IsMadeOf, IsRefusal};
+ghost use Rattle.sidb_layout.specs.Refusal.{IsMadeOf, IsLayoutRefusal};
 ghost use Rattle.sqd_scan.specs.declared.fault.SqdFault.TheVariants.{Memory as OutOfMemory};
 ghost use Rattle.sqd_layout.specs.DotsFaults.{sites_in, BeginsAt, IsDotsFault, IsSqdText, IsSqdFault};
 
@@ -28,7 +28,7 @@ fn place_of(dots: &[Dot], i: usize) -> u64
 /// The fault of dots whose sites make no layout.
 fn dots_fault(dots: &[Dot], refusal: LayoutFault) -> SqdFault
     requires refused { refusal ≢ LayoutFault.Memory
-        → IsRefusal silicon (sites_in dots.now) [] refusal }
+        → IsLayoutRefusal silicon (sites_in dots.now) [] refusal }
     requires apart { (i j : ℕ) → refusal ≢ LayoutFault.TooClose i j }
     ensures { (result ≡ OutOfMemory) ⊎ IsDotsFault dots.now result }
 {

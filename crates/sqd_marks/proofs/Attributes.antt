@@ -6,8 +6,8 @@ use Rattle.std.specs.List.{flat_map}
 use Rattle.std.proofs.lemmas.Bool.{eqb-true}
 use Rattle.sqd_marks.specs.Bytes.{is_blank, is_in_name, is_in_value, Each, Stops, IsName, IsSpan}
 use Rattle.sqd_marks.specs.Marks.{Attribute, IsAttribute, Tag, attribute_bytes}
-use Rattle.sqd_marks.specs.Tags.{IsTail, IsFirstOf, value_of}
-use Rattle.sqd_marks.specs.declared.tag_value.Part.{Part}
+use Rattle.sqd_marks.specs.Tags.{IsTail, IsFirstOf, attribute_value}
+use Rattle.sqd_marks.specs.declared.tag_value.FirstAttribute.{FirstAttribute}
 use Rattle.sqd_marks.proofs.Spans.{span, name_each, name_stops, blank_stops, quote_stops, value_stops}
 use Rattle.sqd_marks.proofs.Values.{spread}
 use Rattle.sqd_marks.proofs.ByteFacts.{cond_true, cond_false}
@@ -79,13 +79,13 @@ pub tail_behind : (a : Attribute) (xs : List Attribute) (left behind : List ℕ)
 tail_behind a xs left behind h e = record { after = h.after; finish = h.finish; valid = h.valid.1; blank = h.blank; closes = h.closes; is = e }
 
 -- the parts of an attribute
-pub record IsParts (a : Attribute) (more : List ℕ) (p : Part) : Type 0 where
+pub record IsParts (a : Attribute) (more : List ℕ) (p : FirstAttribute) : Type 0 where
   pub name : p.name.now ≡ a.name
   pub value : p.value.now ≡ a.value
   pub behind : p.behind.now ≡ more
 
 -- the first of attributes, from its parts
-pub first_of : (attributes : List Attribute) (left : List ℕ) (p : Part) → IsTail attributes left → (IsTail [] left → ⊥)
+pub first_of : (attributes : List Attribute) (left : List ℕ) (p : FirstAttribute) → IsTail attributes left → (IsTail [] left → ⊥)
     → ((a : Attribute) (more : List ℕ) → IsAttribute a → left ≡ attribute_bytes a ++ more → IsParts a more p)
     → IsFirstOf attributes p
 first_of [] left p h some f = absurd (some h)
@@ -102,25 +102,25 @@ none_of (a ∷ xs) left h f = absurd (f a (flat_map attribute_bytes xs ++ (h.aft
 pub record IsLeft (t : Tag) (name left : List ℕ) : Type 0 where
   pub attributes : List Attribute
   pub tail : IsTail attributes left
-  pub same : value_of name t.attributes ≡ value_of name attributes
+  pub same : attribute_value name t.attributes ≡ attribute_value name attributes
 
 -- where no attribute is left, the tag has none of this name
-pub none_left : (t : Tag) (name left : List ℕ) → (h : IsLeft t name left) → ((attributes : List Attribute) → IsTail attributes left → attributes ≡ []) → value_of name t.attributes ≡ None
-none_left t name left h f = h.same ∙ ap (value_of name) (f h.attributes h.tail)
+pub none_left : (t : Tag) (name left : List ℕ) → (h : IsLeft t name left) → ((attributes : List Attribute) → IsTail attributes left → attributes ≡ []) → attribute_value name t.attributes ≡ None
+none_left t name left h f = h.same ∙ ap (attribute_value name) (f h.attributes h.tail)
 
 -- the first attribute has the name
-pub first_left : (t : Tag) (name left : List ℕ) (p : Part) → (h : IsLeft t name left) → ((attributes : List Attribute) → IsTail attributes left → IsFirstOf attributes p) → bytes_eq p.name.now name ≡ true → value_of name t.attributes ≡ Some p.value.now
+pub first_left : (t : Tag) (name left : List ℕ) (p : FirstAttribute) → (h : IsLeft t name left) → ((attributes : List Attribute) → IsTail attributes left → IsFirstOf attributes p) → bytes_eq p.name.now name ≡ true → attribute_value name t.attributes ≡ Some p.value.now
 first_left t name left p h f e =
     let first = f h.attributes h.tail in
     let same : bytes_eq first.first.name name ≡ true = ap (λ n. bytes_eq n name) (sym first.name) ∙ e in
-    h.same ∙ ap (value_of name) first.are ∙ cond_true _ _ _ same ∙ ap Some (sym first.value)
+    h.same ∙ ap (attribute_value name) first.are ∙ cond_true _ _ _ same ∙ ap Some (sym first.value)
 
 -- the first attribute has another name
-pub others_left : (t : Tag) (name left : List ℕ) (p : Part) → IsLeft t name left → ((attributes : List Attribute) → IsTail attributes left → IsFirstOf attributes p) → bytes_eq p.name.now name ≡ false → IsLeft t name p.behind.now
+pub others_left : (t : Tag) (name left : List ℕ) (p : FirstAttribute) → IsLeft t name left → ((attributes : List Attribute) → IsTail attributes left → IsFirstOf attributes p) → bytes_eq p.name.now name ≡ false → IsLeft t name p.behind.now
 others_left t name left p h f e =
     let first = f h.attributes h.tail in
     let other : bytes_eq first.first.name name ≡ false = ap (λ n. bytes_eq n name) (sym first.name) ∙ e in
-    record { attributes = first.others; tail = first.behind; same = h.same ∙ ap (value_of name) first.are ∙ cond_false _ _ _ other }
+    record { attributes = first.others; tail = first.behind; same = h.same ∙ ap (attribute_value name) first.are ∙ cond_false _ _ _ other }
 
 -- bytes whose number is none, and those whose number is not
 pub no_bytes : (bytes : List ℕ) → nat_eq (length bytes) 0 ≡ true → bytes ≡ []

@@ -4,7 +4,7 @@ use Rattle.std.proofs.lemmas.List.{take_rest}
 use Rattle.std.specs.Prelude.{codes, ◌⊎◌}
 use Rattle.std.specs.List.{flat_map}
 use Rattle.sqd_marks.specs.Bytes.{is_in_name, Stops, IsSpan}
-use Rattle.sqd_marks.specs.Marks.{Tag, IsTag, IsMark, close, mark_bytes, attribute_bytes, tag_bytes}
+use Rattle.sqd_marks.specs.Marks.{Tag, IsTag, IsWellFormedMark, close, mark_bytes, attribute_bytes, tag_bytes}
 use Rattle.sqd_marks.specs.Tags.{IsTagOf, IsTail}
 use Rattle.sqd_marks.proofs.Spans.{span, name_each, blank_stops}
 use Rattle.sqd_marks.proofs.Values.{tail_stops}
@@ -30,7 +30,7 @@ cut_of_tag t bytes name behind h u = elim h.spelled [
 ]
 
 -- the name behind the first two bytes of an end mark
-pub name_of_end : (n after bytes name behind : List ℕ) → IsMark (close n after) → mark_bytes (close n after) ≡ bytes → IsSpan is_in_name (take (length bytes - 2) (drop 2 bytes)) name behind → name ≡ n
+pub name_of_end : (n after bytes name behind : List ℕ) → IsWellFormedMark (close n after) → mark_bytes (close n after) ≡ bytes → IsSpan is_in_name (take (length bytes - 2) (drop 2 bytes)) name behind → name ≡ n
 name_of_end n after bytes name behind h is u =
     let same : n ++ (after ++ 62 ∷ []) ≡ name ++ behind = ap (drop 2) is ∙ sym (take_rest bytes 2) ∙ u.whole in
     sym (span is_in_name n name (after ++ 62 ∷ []) behind (name_each n h.0) u.each (blank_stops after (62 ∷ []) h.1 refl) u.stops same).front

@@ -3,7 +3,7 @@ use Rattle.std.proofs.Common.{◌≡◌, refl, ℕ, List, [], ◌∷◌, false, 
 use Rattle.std.specs.Prelude.{codes}
 use Rattle.std.proofs.lemmas.Bool.{eqb-false}
 use Rattle.sqd_marks.specs.Bytes.{is_blank, begins_name, is_in_name, is_in_value, IsName, IsSpan}
-use Rattle.sqd_marks.specs.Marks.{IsAttribute, IsTag, IsMark, close, comment, declaration, mark_bytes}
+use Rattle.sqd_marks.specs.Marks.{IsAttribute, IsTag, IsWellFormedMark, close, comment, declaration, mark_bytes}
 use Rattle.sqd_marks.specs.Tags.{IsTagOf}
 use Rattle.sqd_marks.proofs.StandardFacts.{spaced, tag}
 
@@ -67,13 +67,13 @@ quote_inside h = cc h.value.1.0
 letter_after : IsTag (record tag { after = codes "x" }) → ⊥
 letter_after h = cc h.after.0
 
-end_with_attribute : IsMark (close (codes "a") (codes " b")) → ⊥
+end_with_attribute : IsWellFormedMark (close (codes "a") (codes " b")) → ⊥
 end_with_attribute h = cc h.1.1.0
 
-comment_ends_inside : IsMark (comment (codes "a-->")) → ⊥
+comment_ends_inside : IsWellFormedMark (comment (codes "a-->")) → ⊥
 comment_ends_inside h = cc h.1.0
 
-declaration_ends_inside : IsMark (declaration (codes "?>")) → ⊥
+declaration_ends_inside : IsWellFormedMark (declaration (codes "?>")) → ⊥
 declaration_ends_inside h = cc h.0
 
 second : (a b : ℕ) (x y : List ℕ) → 60 ∷ a ∷ x ≡ 60 ∷ b ∷ y → a ≡ b

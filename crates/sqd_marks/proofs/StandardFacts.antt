@@ -2,8 +2,8 @@
 use Rattle.std.proofs.Common.{◌≡◌, refl, [], ◌∷◌, true, inl, inr, Some, None}
 use Rattle.std.specs.Prelude.{codes}
 use Rattle.sqd_marks.specs.Bytes.{is_blank, begins_name, is_in_name, is_in_value, IsSpan}
-use Rattle.sqd_marks.specs.Marks.{Attribute, Tag, start, empty, close, comment, declaration, doctype, cdata, IsAttribute, IsTag, IsMark, mark_bytes, kind_of}
-use Rattle.sqd_marks.specs.Tags.{IsTagOf, value_of, IsTail}
+use Rattle.sqd_marks.specs.Marks.{Attribute, Tag, start, empty, close, comment, declaration, doctype, cdata, IsAttribute, IsTag, IsWellFormedMark, mark_bytes, kind_of_mark}
+use Rattle.sqd_marks.specs.Tags.{IsTagOf, attribute_value, IsTail}
 use Rattle.sqd_marks.specs.declared.kind.Kind.TheVariants.{Comment}
 
 -- n = '1' behind a space
@@ -42,17 +42,17 @@ doctype_bytes = refl
 cdata_bytes : mark_bytes cdata ≡ codes "<![CDATA["
 cdata_bytes = refl
 
-comment_kind : kind_of (comment []) ≡ Comment
+comment_kind : kind_of_mark (comment []) ≡ Comment
 comment_kind = refl
 
 -- the first of two attributes of one name counts
-first_value : value_of (codes "n") tag.attributes ≡ Some (codes "1")
+first_value : attribute_value (codes "n") tag.attributes ≡ Some (codes "1")
 first_value = refl
 
-empty_value : value_of (codes "m") tag.attributes ≡ Some []
+empty_value : attribute_value (codes "m") tag.attributes ≡ Some []
 empty_value = refl
 
-no_value : value_of (codes "l") tag.attributes ≡ None
+no_value : attribute_value (codes "l") tag.attributes ≡ None
 no_value = refl
 
 spaced_fits : IsAttribute spaced
@@ -67,14 +67,14 @@ again_fits = record { apart = λ e. cc e; before = (refl, tt); name = (refl, tt)
 tag_fits : IsTag tag
 tag_fits = record { name = (refl, (refl, (refl, tt))); attributes = (spaced_fits, (short_fits, (again_fits, tt))); after = (refl, tt) }
 
-start_fits : IsMark (start tag)
+start_fits : IsWellFormedMark (start tag)
 start_fits = tag_fits
 
 -- `-->` begins neither at the first `-` nor behind it
-comment_fits : IsMark (comment (codes "->"))
+comment_fits : IsWellFormedMark (comment (codes "->"))
 comment_fits = (refl, (refl, tt))
 
-declaration_fits : IsMark (declaration (codes ">"))
+declaration_fits : IsWellFormedMark (declaration (codes ">"))
 declaration_fits = (refl, tt)
 
 tag_of : IsTagOf tag (mark_bytes (empty tag))

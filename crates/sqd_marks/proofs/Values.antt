@@ -3,7 +3,7 @@ use Rattle.std.proofs.Common.{◌≡◌, ◌∙◌, sym, ap, refl, subst, ℕ, L
 use Rattle.std.specs.Prelude.{codes}
 use Rattle.std.specs.List.{flat_map, AllByRecursion}
 use Rattle.sqd_marks.specs.Bytes.{is_blank, is_in_name, is_in_value, begins_name, Each, Stops, IsName}
-use Rattle.sqd_marks.specs.Marks.{Mark, start, empty, close, comment, declaration, doctype, cdata, IsMark, kind_of, mark_bytes, Attribute, IsAttribute, Tag, IsTag, attribute_bytes, tag_bytes}
+use Rattle.sqd_marks.specs.Marks.{TextMark, start, empty, close, comment, declaration, doctype, cdata, IsWellFormedMark, kind_of_mark, mark_bytes, Attribute, IsAttribute, Tag, IsTag, attribute_bytes, tag_bytes}
 use Rattle.sqd_marks.proofs.Spans.{span, name_each, name_stops, blank_stops, some_blank_stops, quote_stops, value_stops}
 
 abbrev attribute : List ℕ → List ℕ → List ℕ → List ℕ → ℕ → List ℕ → Attribute
@@ -105,7 +105,7 @@ slash_close : IsClose (47 ∷ 62 ∷ [])
 slash_close = record { byte = 47; more = 62 ∷ []; is = refl; no_blank = refl; no_name = refl }
 
 -- one mark of a kind for its bytes
-pub same_mark : (m n : Mark) → IsMark m → IsMark n → kind_of m ≡ kind_of n → mark_bytes m ≡ mark_bytes n → m ≡ n
+pub same_mark : (m n : TextMark) → IsWellFormedMark m → IsWellFormedMark n → kind_of_mark m ≡ kind_of_mark n → mark_bytes m ≡ mark_bytes n → m ≡ n
 same_mark (start t) (start u) h g k e =
     let inner : tag_bytes t ++ 62 ∷ [] ≡ tag_bytes u ++ 62 ∷ [] = cc e in
     ap start (one_tag t u (62 ∷ []) (62 ∷ []) h g gt_close gt_close refl refl inner)

@@ -21,14 +21,14 @@ pub record Tag : Type 0 where
   pub after : List ℕ
 
 -- a mark that begins with `<`; the last two may stand in no text
-pub data Mark : Type 0 where
-  start : Tag → Mark
-  empty : Tag → Mark
-  close : List ℕ → List ℕ → Mark
-  comment : List ℕ → Mark
-  declaration : List ℕ → Mark
-  doctype : Mark
-  cdata : Mark
+pub data TextMark : Type 0 where
+  start : Tag → TextMark
+  empty : Tag → TextMark
+  close : List ℕ → List ℕ → TextMark
+  comment : List ℕ → TextMark
+  declaration : List ℕ → TextMark
+  doctype : TextMark
+  cdata : TextMark
 
 -- the bytes of an attribute
 abbrev pub attribute_bytes : Attribute → List ℕ
@@ -40,7 +40,7 @@ abbrev pub tag_bytes : Tag → List ℕ
 tag_bytes t = t.name ++ (flat_map attribute_bytes t.attributes ++ t.after)
 
 -- the bytes of a mark
-abbrev pub mark_bytes : Mark → List ℕ
+abbrev pub mark_bytes : TextMark → List ℕ
 mark_bytes (start t) = codes "<" ++ (tag_bytes t ++ codes ">")
 mark_bytes (empty t) = codes "<" ++ (tag_bytes t ++ codes "/>")
 mark_bytes (close name after) = codes "</" ++ (name ++ (after ++ codes ">"))
@@ -71,21 +71,21 @@ IsWithout stop [] = Unit {0}
 IsWithout stop (b ∷ bs) = (starts_with nat_eq (b ∷ bs) stop ≡ false) × IsWithout stop bs
 
 -- a mark as it may be
-abbrev pub IsMark : Mark → Type 0
-IsMark (start t) = IsTag t
-IsMark (empty t) = IsTag t
-IsMark (close name after) = IsName name × Each is_blank after
-IsMark (comment inner) = IsWithout (codes "-->") inner
-IsMark (declaration inner) = IsWithout (codes "?>") inner
-IsMark doctype = Unit {0}
-IsMark cdata = Unit {0}
+abbrev pub IsWellFormedMark : TextMark → Type 0
+IsWellFormedMark (start t) = IsTag t
+IsWellFormedMark (empty t) = IsTag t
+IsWellFormedMark (close name after) = IsName name × Each is_blank after
+IsWellFormedMark (comment inner) = IsWithout (codes "-->") inner
+IsWellFormedMark (declaration inner) = IsWithout (codes "?>") inner
+IsWellFormedMark doctype = Unit {0}
+IsWellFormedMark cdata = Unit {0}
 
 -- which form a mark has
-abbrev pub kind_of : Mark → Kind
-kind_of (start t) = Start
-kind_of (empty t) = Empty
-kind_of (close name after) = End
-kind_of (comment inner) = Comment
-kind_of (declaration inner) = Declaration
-kind_of doctype = Doctype
-kind_of cdata = Cdata
+abbrev pub kind_of_mark : TextMark → Kind
+kind_of_mark (start t) = Start
+kind_of_mark (empty t) = Empty
+kind_of_mark (close name after) = End
+kind_of_mark (comment inner) = Comment
+kind_of_mark (declaration inner) = Declaration
+kind_of_mark doctype = Doctype
+kind_of_mark cdata = Cdata

@@ -25,7 +25,7 @@ impl ByteKind {
 
 /// Bytes, and what is behind them.
 #[derive(Clone, Copy)]
-pub struct Parts<'a> {
+pub struct SplitBytes<'a> {
     pub front: &'a [u8],
     pub behind: &'a [u8],
 }
@@ -45,11 +45,11 @@ fn span_len(bytes: &[u8], kind: ByteKind) -> usize
 }
 
 /// The bytes of a kind in front, all of them, and what is behind them.
-pub fn cut_span(bytes: &[u8], kind: ByteKind) -> Parts
+pub fn cut_span(bytes: &[u8], kind: ByteKind) -> SplitBytes
     ensures cut { IsSpan (is_of kind) bytes.now result.front.now result.behind.now }
 {
     let len = span_len(bytes, kind);
-    Parts {
+    SplitBytes {
         front: &bytes[..len],
         behind: &bytes[len..],
     }

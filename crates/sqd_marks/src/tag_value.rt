@@ -2,14 +2,14 @@ ghost use Rattle.std.specs.Prelude.{◌≡◌, ◌⊎◌, ◌<◌, ◌≤◌, �
 ghost use Rattle.std.specs.Option.{option_copied};
 ghost use Rattle.sqd_marks.specs.Bytes.{is_blank, is_in_value, Each};
 ghost use Rattle.sqd_marks.specs.Marks.{Attribute, IsAttribute, Tag, attribute_bytes};
-ghost use Rattle.sqd_marks.specs.Tags.{IsTagOf, IsTail, IsNext, value_of};
+ghost use Rattle.sqd_marks.specs.Tags.{IsTagOf, IsTail, IsFirstOrNone, attribute_value};
 
-use crate::span::{ByteKind, Parts, cut_span};
+use crate::span::{ByteKind, SplitBytes, cut_span};
 use crate::tag::tag_parts;
 
 /// An attribute in front of the tail of a tag, and what is behind it.
 #[derive(Clone, Copy)]
-pub struct Part<'a> {
+pub struct FirstAttribute<'a> {
     pub name: &'a [u8],
     pub value: &'a [u8],
     pub behind: &'a [u8],
@@ -36,7 +36,7 @@ fn first_byte(bytes: &[u8]) -> Option<First>
 }
 
 // The name of an attribute in front, and what is behind the byte after it and its blanks.
-fn name_part(left: &[u8]) -> Option<Parts>
+fn name_part(left: &[u8]) -> Option<SplitBytes>
     ensures some { (a : Attribute) (more : List ℕ) → IsAttribute a
         → left.now ≡ attribute_bytes a ++ more → MatchOption result ⊥ (λ p. (p.front.now ≡ a.name)
         × (p.behind.now ≡ a.right ++ (a.quote ∷ (a.value ++ a.quote ∷ more)))) }
@@ -49,7 +49,7 @@ fn name_part(left: &[u8]) -> Option<Parts>
     }
     match first_byte(cut_span(name.behind, ByteKind::Blank).behind) {
         None => None,
-        Some(equals) => Some(Parts {
+        Some(equals) => Some(SplitBytes {
             front: name.front,
             behind: equals.behind,
         }),
@@ -57,7 +57,7 @@ fn name_part(left: &[u8]) -> Option<Parts>
 }
 
 // The value in front, behind blanks, and what is behind its second quote.
-fn value_part(left: &[u8]) -> Option<Parts>
+fn value_part(left: &[u8]) -> Option<SplitBytes>
     ensures some { (right value more : List ℕ) (quote : ℕ) → Each is_blank right
         → (quote ≡ 34) ⊎ (quote ≡ 39) → Each (is_in_value quote) value
         → left.now ≡ right ++ (quote ∷ (value ++ quote ∷ more))
@@ -70,7 +70,7 @@ fn value_part(left: &[u8]) -> Option<Parts>
             let value = cut_span(quote.behind, ByteKind::InValue(quote.byte));
             match first_byte(value.behind) {
                 None => None,
-                Some(last) => Some(Parts {
+                Some(last) => Some(SplitBytes {
                     front: value.front,
                     behind: last.behind,
                 }),
@@ -80,16 +80,16 @@ fn value_part(left: &[u8]) -> Option<Parts>
 }
 
 // The first attribute of the tail of a tag.
-fn next_attribute(left: &[u8]) -> Option<Part>
+fn next_attribute(left: &[u8]) -> Option<FirstAttribute>
     ensures next { (attributes : List Attribute) → IsTail attributes left.now
-        → IsNext attributes result }
+        → IsFirstOrNone attributes result }
     ensures shorter { IfSome result (λ p. length p.behind.now < length left.now) }
 {
     match name_part(left) {
         None => None,
         Some(name) => match value_part(name.behind) {
             None => None,
-            Some(value) => Some(Part {
+            Some(value) => Some(FirstAttribute {
                 name: name.front,
                 value: value.front,
                 behind: value.behind,
@@ -109,7 +109,7 @@ fn all_attributes(mark: &[u8]) -> &[u8]
 /// quotes, or `None` where it has no such attribute. Of several of one name the first counts.
 pub fn attribute<'a>(mark: &'a [u8], name: &[u8]) -> Option<&'a [u8]>
     ensures value { (t : Tag) → IsTagOf t mark.now
-        → option_copied result ≡ value_of name.now t.attributes }
+        → option_copied result ≡ attribute_value name.now t.attributes }
 {
     let mut left = all_attributes(mark);
     'parts: loop {

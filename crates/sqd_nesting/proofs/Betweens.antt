@@ -5,7 +5,7 @@ use Rattle.std.proofs.lemmas.List.{take-append-drop, length-take-le}
 use Rattle.sqd_marks.specs.Bytes.{is_blank, Each}
 use Rattle.sqd_scan.specs.Fronts.{IsOf, IsFaultOf}
 use Rattle.sqd_scan.specs.declared.mark_scan.Whole.{Whole}
-use Rattle.sqd_nesting.specs.Texts.{Nest, IsOutside, IsQuiet, is_text}
+use Rattle.sqd_nesting.specs.Texts.{Nest, IsOutsideRoot, IsQuiet, is_text}
 use Rattle.sqd_nesting.specs.Faults.{IsStray, BeginsMark, IsFaultAt, IsFaultIn}
 use Rattle.sqd_nesting.specs.Views.{IsAhead}
 use Rattle.sqd_scan.specs.declared.fault.SqdFault.{SqdFault}
@@ -19,7 +19,7 @@ not_less b h = elim (tells (eqb b 60)) [
 ]
 
 -- the text before the next mark isn't blank
-pub loud : (at : ℕ) (nest : Nest) (left : List ℕ) (gap k : ℕ) → IsOutside nest → gap ≤ length left → Each is_text (take gap left) → k < length (take gap left) → Each is_blank (take k (take gap left)) → is_blank (get_or (take gap left) k 0) ≡ false → IsFaultIn at nest left (BadMark (at + k))
+pub loud : (at : ℕ) (nest : Nest) (left : List ℕ) (gap k : ℕ) → IsOutsideRoot nest → gap ≤ length left → Each is_text (take gap left) → k < length (take gap left) → Each is_blank (take k (take gap left)) → is_blank (get_or (take gap left) k 0) ≡ false → IsFaultIn at nest left (BadMark (at + k))
 loud at nest left gap k outside within text below blank bad =
     let between : List ℕ = take gap left in
     let count : length (take k between) ≡ k = length-take-le k between (omega (arith, below)) in

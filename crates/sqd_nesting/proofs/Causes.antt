@@ -2,10 +2,10 @@
 use Rattle.std.proofs.Common.{◌≡◌, ◌≢◌, ◌∙◌, sym, ap, refl, subst, ℕ, ◌+◌, List, [], ◌∷◌, ◌++◌, Bool, true, false, append_assoc, inl, inr}
 use Rattle.std.proofs.lemmas.Bool.{eqb-false}
 use Rattle.sqd_marks.specs.Bytes.{begins_name, IsName}
-use Rattle.sqd_marks.specs.Marks.{Tag, IsTag, Mark, start, empty, close, comment, declaration, doctype, cdata, IsMark, mark_bytes, tag_bytes}
+use Rattle.sqd_marks.specs.Marks.{Tag, IsTag, TextMark, start, empty, close, comment, declaration, doctype, cdata, IsWellFormedMark, mark_bytes, tag_bytes}
 use Rattle.sqd_scan.specs.Fronts.{IsCut, IsBadAt, IsFaultOf}
-use Rattle.sqd_nesting.specs.Texts.{Opened, Nest, IsOutside, MayBegin, Turns}
-use Rattle.sqd_nesting.specs.Faults.{HasInnermost, HasOther, IsStray, BeginsWith, IsFaultAt}
+use Rattle.sqd_nesting.specs.Texts.{Opened, Nest, IsOutsideRoot, MayBegin, Turns}
+use Rattle.sqd_nesting.specs.Faults.{HasInnermost, HasOther, IsStray, BeginsWithMark, IsFaultAt}
 use Rattle.sqd_scan.specs.declared.fault.SqdFault.{SqdFault}
 use Rattle.sqd_scan.specs.declared.fault.SqdFault.TheVariants.{BadMark, NotClosed, WrongClose, Doctype, Cdata}
 use Rattle.sqd_nesting.proofs.Once.{OneMark, no_mark}
@@ -13,7 +13,7 @@ use Rattle.sqd_nesting.proofs.Once.{OneMark, no_mark}
 -- what the marks in front of bytes promise
 pub record Laws : Type 0 where
   pub one_mark : OneMark
-  pub no_fault : (at : ℕ) (bytes : List ℕ) (m : Mark) (x : List ℕ) (fault : SqdFault) → IsMark m → bytes ≡ mark_bytes m ++ x → IsFaultOf at bytes fault → ⊥
+  pub no_fault : (at : ℕ) (bytes : List ℕ) (m : TextMark) (x : List ℕ) (fault : SqdFault) → IsWellFormedMark m → bytes ≡ mark_bytes m ++ x → IsFaultOf at bytes fault → ⊥
   pub one_fault : (at : ℕ) (bytes : List ℕ) (f g : SqdFault) → IsFaultOf at bytes f → IsFaultOf at bytes g → f ≡ g
 
 -- lists with one more at the end
@@ -46,7 +46,7 @@ same_nest : (a b : Nest) → a.opened ≡ b.opened → a.rooted ≡ b.rooted →
 same_nest a b e f = ap (λ o. nest o a.rooted) e ∙ ap (λ r. nest b.opened r) f
 
 -- what is open after a mark is one nest
-pub one_turn : (at : ℕ) (m : Mark) (old a b : Nest) → Turns at m old a → Turns at m old b → a ≡ b
+pub one_turn : (at : ℕ) (m : TextMark) (old a b : Nest) → Turns at m old a → Turns at m old b → a ≡ b
 one_turn at (start t) old a b h g = same_nest a b (h.1.opened ∙ sym g.1.opened) (h.1.rooted ∙ sym g.1.rooted)
 one_turn at (empty t) old a b h g = same_nest a b (h.1.opened ∙ sym g.1.opened) (h.1.rooted ∙ sym g.1.rooted)
 one_turn at (close n w) old a b h g = same_nest a b (same_end a.opened b.opened h.innermost g.innermost (sym h.opened ∙ g.opened)).others (h.rooted ∙ sym g.rooted)
@@ -100,7 +100,7 @@ no_bang n rest x e s = not_told n rest 33 s (second s.byte 33 s.more x (sym s.is
 no_asked : (n : Nest) (rest x : List ℕ) → rest ≡ 60 ∷ 63 ∷ x → IsStray n rest → ⊥
 no_asked n rest x e s = not_told n rest 63 s (second s.byte 63 s.more x (sym s.is ∙ e)) (eqb-false 63 47 refl) asked_nameless
 
-pub stray_stops : (at : ℕ) (m : Mark) (n next : Nest) (rest x : List ℕ) → IsStray n rest → rest ≡ mark_bytes m ++ x → IsMark m → Turns at m n next → ⊥
+pub stray_stops : (at : ℕ) (m : TextMark) (n next : Nest) (rest x : List ℕ) → IsStray n rest → rest ≡ mark_bytes m ++ x → IsWellFormedMark m → Turns at m n next → ⊥
 stray_stops at (start t) n next rest x s e h turns = no_tag n rest s (tag_first s.byte s.more x (62 ∷ []) t h (sym s.is ∙ e)) turns.0
 stray_stops at (empty t) n next rest x s e h turns = no_tag n rest s (tag_first s.byte s.more x (47 ∷ 62 ∷ []) t h (sym s.is ∙ e)) turns.0
 stray_stops at (close name w) n next rest x s e h turns = some_end next.opened turns.innermost (sym s.outside ∙ turns.opened)
@@ -110,20 +110,20 @@ stray_stops at doctype n next rest x s e h turns = turns
 stray_stops at cdata n next rest x s e h turns = turns
 
 -- the fault of a mark that may not stand at this place
-abbrev fault_of : Mark → ℕ → SqdFault
+abbrev fault_of : TextMark → ℕ → SqdFault
 fault_of doctype at = Doctype at
 fault_of cdata at = Cdata at
 fault_of _ at = WrongClose at
 
 -- the cause of a fault: a whole mark, the end of the text inside one or inside an element, an element that may not begin or end, a byte
 data Cause (at : ℕ) (n : Nest) (rest : List ℕ) (f : SqdFault) : Type 0 where
-  whole : (m : Mark) → IsMark m → BeginsWith m rest → (IsStray n rest → ⊥) → f ≡ fault_of m at → Cause at n rest f
+  whole : (m : TextMark) → IsWellFormedMark m → BeginsWithMark m rest → (IsStray n rest → ⊥) → f ≡ fault_of m at → Cause at n rest f
   inside : rest ≢ [] → IsCut rest → (IsStray n rest → ⊥) → f ≡ NotClosed at → Cause at n rest f
   unclosed : (k : ℕ) → rest ≡ [] → HasInnermost k n → f ≡ NotClosed k → Cause at n rest f
   stray : IsStray n rest → f ≡ BadMark at → Cause at n rest f
   broken : (j : ℕ) → IsBadAt rest j → (IsStray n rest → ⊥) → f ≡ BadMark (at + j) → Cause at n rest f
 
-no_inside : (name : List ℕ) (n : Nest) → HasOther name n → IsOutside n → ⊥
+no_inside : (name : List ℕ) (n : Nest) → HasOther name n → IsOutsideRoot n → ⊥
 no_inside name n h outside = some_end h.others h.innermost (sym outside ∙ h.opened)
 
 cause_of : (at : ℕ) (n : Nest) (rest : List ℕ) (f : SqdFault) → IsFaultAt at n rest f → Cause at n rest f
@@ -189,7 +189,7 @@ pub one_cause : Laws → (at : ℕ) (n : Nest) (rest : List ℕ) (f g : SqdFault
 one_cause law at n rest f g h i = ordered law at n rest f g (cause_of at n rest f h) (cause_of at n rest g i)
 
 -- a mark that turns what is open has no fault
-pub no_cause : Laws → (at here : ℕ) (n next : Nest) (rest x : List ℕ) (m : Mark) (f : SqdFault) → IsMark m → rest ≡ mark_bytes m ++ x → Turns here m n next → IsFaultAt at n rest f → ⊥
+pub no_cause : Laws → (at here : ℕ) (n next : Nest) (rest x : List ℕ) (m : TextMark) (f : SqdFault) → IsWellFormedMark m → rest ≡ mark_bytes m ++ x → Turns here m n next → IsFaultAt at n rest f → ⊥
 no_cause law at here n next rest x m (Doctype k) h e turns fault =
     let same = law.one_mark m doctype x fault.1.0 h tt (sym e ∙ fault.1.1) in
     subst (λ o. Turns here o n next) same turns

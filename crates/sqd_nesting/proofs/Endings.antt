@@ -4,7 +4,7 @@ use Rattle.std.specs.List.{flat_map, AllByRecursion}
 use Rattle.std.proofs.lemmas.List.{append-nil}
 use Rattle.sqd_marks.specs.Bytes.{is_blank, Each, Stops}
 use Rattle.sqd_marks.specs.Marks.{close, doctype, cdata, mark_bytes}
-use Rattle.sqd_nesting.specs.Texts.{Item, IsItem, item_bytes, is_text, Nest, IsOutside, IsQuiet, Passes, Nested, IsWhole, mark_len, at_first}
+use Rattle.sqd_nesting.specs.Texts.{Item, IsItem, item_bytes, is_text, Nest, IsOutsideRoot, IsQuiet, PassesItem, Nested, IsWhole, mark_len, at_first}
 use Rattle.sqd_nesting.specs.Faults.{IsLoud, BeginsMark, IsBehind, IsFaultAt, IsFaultIn, IsFirstFault}
 use Rattle.sqd_scan.specs.declared.fault.SqdFault.{SqdFault}
 use Rattle.sqd_scan.specs.declared.fault.SqdFault.TheVariants.{BadMark, NotClosed, WrongClose, Doctype, Cdata}
@@ -60,11 +60,11 @@ loud_not_quiet at n between rest t y f h text e s quiet =
 
 -- how a text ends behind its items: with a fault, or with blanks and nothing open
 abbrev IsEnding : ℕ → Nest → List ℕ → Option SqdFault → Type 0
-IsEnding at n left None = IsOutside n × Each is_blank left
+IsEnding at n left None = IsOutsideRoot n × Each is_blank left
 IsEnding at n left (Some f) = IsFaultIn at n left f
 
 -- no item that may stand is left at an ending
-fault_no_item : Laws → (at here : ℕ) (n next : Nest) (left x : List ℕ) (i : Item) (f : SqdFault) → IsItem i → Passes here i n next → left ≡ item_bytes i ++ x → IsFaultIn at n left f → ⊥
+fault_no_item : Laws → (at here : ℕ) (n next : Nest) (left x : List ℕ) (i : Item) (f : SqdFault) → IsItem i → PassesItem here i n next → left ≡ item_bytes i ++ x → IsFaultIn at n left f → ⊥
 fault_no_item law at here n next left x i f h passes e fault = elim fault.found [
   | inl loud ↦ loud_not_quiet at n fault.between fault.rest i.text (mark_bytes i.mark ++ x) f loud fault.text_only (sym fault.is ∙ e ∙ append_assoc i.text (mark_bytes i.mark) x) (mark_stops i.mark x) passes.quiet
   | inr behind ↦
@@ -79,7 +79,7 @@ blank_no_mark i left x h e =
     let same = span is_text (mark_bytes i.mark ++ x) [] [] (mark_bytes i.mark ++ x) text tt tt (mark_stops i.mark x) (append-nil (mark_bytes i.mark ++ x)) in
     no_mark i.mark x same.rest
 
-ending_no_item : Laws → (at here : ℕ) (n next : Nest) (left x : List ℕ) (i : Item) (o : Option SqdFault) → IsItem i → Passes here i n next → left ≡ item_bytes i ++ x → IsEnding at n left o → ⊥
+ending_no_item : Laws → (at here : ℕ) (n next : Nest) (left x : List ℕ) (i : Item) (o : Option SqdFault) → IsItem i → PassesItem here i n next → left ≡ item_bytes i ++ x → IsEnding at n left o → ⊥
 ending_no_item law at here n next left x i None h passes e ending = blank_no_mark i left x ending.1 e
 ending_no_item law at here n next left x i (Some f) h passes e ending = fault_no_item law at here n next left x i f h passes e ending
 
@@ -107,7 +107,7 @@ one_fault_in law at n left f g h k = by h.found k.found
         one_cause law (at + length k.between) n k.rest f g there b.found
 
 -- where only blanks are left and nothing is open there is no fault
-end_no_fault : (at : ℕ) (n : Nest) (f : SqdFault) → IsOutside n → IsFaultAt at n [] f → ⊥
+end_no_fault : (at : ℕ) (n : Nest) (f : SqdFault) → IsOutsideRoot n → IsFaultAt at n [] f → ⊥
 end_no_fault at n (Doctype k) outside h = no_mark doctype h.1.0 h.1.1
 end_no_fault at n (Cdata k) outside h = no_mark cdata h.1.0 h.1.1
 end_no_fault at n (WrongClose k) outside h = no_mark (close h.1.name h.1.after) h.1.begins.0 h.1.begins.1
@@ -123,7 +123,7 @@ no_rest (b ∷ rest) h g =
     let wrong : is_blank 60 ≡ true = ap is_blank (sym h) ∙ g.0 in
     absurd (cc wrong)
 
-blank_no_fault : (at : ℕ) (n : Nest) (left : List ℕ) (f : SqdFault) → IsOutside n → Each is_blank left → IsFaultIn at n left f → ⊥
+blank_no_fault : (at : ℕ) (n : Nest) (left : List ℕ) (f : SqdFault) → IsOutsideRoot n → Each is_blank left → IsFaultIn at n left f → ⊥
 blank_no_fault at n left f outside blank fault =
     let all : Each is_blank (fault.between ++ fault.rest) = subst (Each is_blank) fault.is blank in
     elim fault.found [
@@ -144,7 +144,7 @@ one_ending law at n left (Some f) (Some g) h k = ap Some (one_fault_in law at n 
 
 -- what follows an item, as far as the item says
 record Follows (at : ℕ) (old next : Nest) (i : Item) (items : List Item) (nest : Nest) (left : List ℕ) (o : Option SqdFault) : Type 0 where
-  passes : Passes at i old next
+  passes : PassesItem at i old next
   nested : Nested (at + length (item_bytes i)) next items nest
   ending : IsEnding (at + length (item_bytes i ++ flat_map item_bytes items)) nest left o
 

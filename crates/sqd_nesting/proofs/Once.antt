@@ -4,7 +4,7 @@ use Rattle.std.specs.List.{flat_map, AllByRecursion}
 use Rattle.std.proofs.lemmas.List.{append-nil}
 use Rattle.std.proofs.lemmas.Bool.{eqb-true}
 use Rattle.sqd_marks.specs.Bytes.{is_blank, Each, Stops}
-use Rattle.sqd_marks.specs.Marks.{Mark, start, empty, close, comment, declaration, doctype, cdata, IsMark, mark_bytes}
+use Rattle.sqd_marks.specs.Marks.{TextMark, start, empty, close, comment, declaration, doctype, cdata, IsWellFormedMark, mark_bytes}
 use Rattle.sqd_nesting.specs.Texts.{Item, IsItem, item_bytes, is_text, IsWhole}
 use Rattle.sqd_nesting.specs.Faults.{BeginsMark}
 use Rattle.sqd_marks.proofs.ByteFacts.{tells}
@@ -13,16 +13,16 @@ use Rattle.sqd_marks.proofs.Spans.{span}
 
 -- what a text begins with is one mark
 abbrev pub OneMark : Type 0
-OneMark = (m n : Mark) (x y : List ℕ) → IsMark m → IsMark n → mark_bytes m ++ x ≡ mark_bytes n ++ y → m ≡ n
+OneMark = (m n : TextMark) (x y : List ℕ) → IsWellFormedMark m → IsWellFormedMark n → mark_bytes m ++ x ≡ mark_bytes n ++ y → m ≡ n
 
 pub begin_stops : (bytes : List ℕ) → BeginsMark bytes → Stops is_text bytes
 begin_stops [] h = tt
 begin_stops (b ∷ bs) h = ap is_text h
 
-pub mark_stops : (m : Mark) (more : List ℕ) → Stops is_text (mark_bytes m ++ more)
+pub mark_stops : (m : TextMark) (more : List ℕ) → Stops is_text (mark_bytes m ++ more)
 mark_stops m more = begin_stops (mark_bytes m ++ more) (begins_mark m more)
 
-pub no_mark : (m : Mark) (more : List ℕ) → [] ≡ mark_bytes m ++ more → ⊥
+pub no_mark : (m : TextMark) (more : List ℕ) → [] ≡ mark_bytes m ++ more → ⊥
 no_mark (start t) more e = cc e
 no_mark (empty t) more e = cc e
 no_mark (close n w) more e = cc e
@@ -40,7 +40,7 @@ cancel (c ∷ a) x y e =
 spread : (i : Item) (rest x : List ℕ) → (item_bytes i ++ rest) ++ x ≡ i.text ++ (mark_bytes i.mark ++ (rest ++ x))
 spread i rest x = append_assoc (item_bytes i) rest x ∙ append_assoc i.text (mark_bytes i.mark) (rest ++ x)
 
-abbrev item : List ℕ → Mark → Item
+abbrev item : List ℕ → TextMark → Item
 item text mark = record { text = text; mark = mark }
 
 pub record SameItem (i j : Item) (x y : List ℕ) : Type 0 where

@@ -7,9 +7,9 @@ use Rattle.std.proofs.lemmas.List.Concat.{flat_map-append}
 use Rattle.std.proofs.lemmas.Bool.{eqb-true, eqb-false}
 use Rattle.std.proofs.lemmas.Slice.Eq.{bytes_eq-Decides}
 use Rattle.sqd_marks.specs.Bytes.{is_blank, begins_name, Each}
-use Rattle.sqd_marks.specs.Marks.{Mark, start, empty, close, comment, declaration, doctype, cdata, IsMark, mark_bytes}
+use Rattle.sqd_marks.specs.Marks.{TextMark, start, empty, close, comment, declaration, doctype, cdata, IsWellFormedMark, mark_bytes}
 use Rattle.sqd_scan.specs.Fronts.{HasMark, IsFaultOf}
-use Rattle.sqd_nesting.specs.Texts.{Item, IsItem, item_bytes, is_text, Opened, Nest, IsOutside, IsQuiet, Turns, Passes, Begins, IsWhole, mark_len, at_first}
+use Rattle.sqd_nesting.specs.Texts.{Item, IsItem, item_bytes, is_text, Opened, Nest, IsOutsideRoot, IsQuiet, Turns, PassesItem, Begins, IsWhole, mark_len, at_first}
 use Rattle.sqd_nesting.specs.Faults.{IsStray, BeginsMark, IsFaultAt, IsFaultIn, IsFirstFault}
 use Rattle.sqd_scan.specs.declared.fault.SqdFault.{SqdFault}
 use Rattle.sqd_scan.specs.declared.fault.SqdFault.TheVariants.{BadMark, NotClosed, WrongClose, Doctype, Cdata}
@@ -39,10 +39,10 @@ last_of x (y ∷ xs) =
     let more = last_of y xs in
     record { others = x ∷ more.others; last = more.last; is = ap (λ l. x ∷ l) more.is }
 
-open_or_not : (n : Nest) → IsOutside n ⊎ Innermost n
+open_or_not : (n : Nest) → IsOutsideRoot n ⊎ Innermost n
 open_or_not n = by n.opened refl
   where
-    by : (xs : List Opened) → n.opened ≡ xs → IsOutside n ⊎ Innermost n
+    by : (xs : List Opened) → n.opened ≡ xs → IsOutsideRoot n ⊎ Innermost n
     by [] e = inl e
     by (x ∷ xs) e =
         let last = last_of x xs in
@@ -52,7 +52,7 @@ no_end : (a : List Opened) (x : Opened) → [] ≡ a ++ x ∷ [] → ⊥
 no_end [] x e = cc e
 no_end (y ∷ a) x e = cc e
 
-is_open : (n : Nest) → Innermost n → IsOutside n → ⊥
+is_open : (n : Nest) → Innermost n → IsOutsideRoot n → ⊥
 is_open n h outside = no_end h.others h.innermost (sym outside ∙ h.opened)
 
 -- what is left, cut before its first mark
@@ -101,7 +101,7 @@ second b c x y e = cc e
 no_second : (b : ℕ) (x : List ℕ) → 60 ∷ [] ≡ 60 ∷ b ∷ x → ⊥
 no_second b x e = cc e
 
-told : (n : Nest) (c : ℕ) (more : List ℕ) → IsOutside n → c ≢ 47 → ((n.rooted ≡ true) × (begins_name c ≡ true) → ⊥) → IsStray n (60 ∷ c ∷ more) → ⊥
+told : (n : Nest) (c : ℕ) (more : List ℕ) → IsOutsideRoot n → c ≢ 47 → ((n.rooted ≡ true) × (begins_name c ≡ true) → ⊥) → IsStray n (60 ∷ c ∷ more) → ⊥
 told n c more outside other calm s =
     let same = second c s.byte more s.more s.is in
     elim s.tells [
@@ -109,7 +109,7 @@ told n c more outside other calm s =
       | inr both ↦ calm (both.0, ap begins_name same ∙ both.1)
     ]
 
-strayness_at : (n : Nest) (c : ℕ) (more : List ℕ) → IsOutside n → Strayness n (60 ∷ c ∷ more)
+strayness_at : (n : Nest) (c : ℕ) (more : List ℕ) → IsOutsideRoot n → Strayness n (60 ∷ c ∷ more)
 strayness_at n c more outside = elim (tells (eqb c 47)) [
   | inl e ↦ inl (record { byte = c; more = more; is = refl; outside = outside; tells = inl (eqb-true c 47 e) })
   | inr e ↦ elim (tells n.rooted) [
@@ -127,19 +127,19 @@ strayness n rest = elim (open_or_not n) [
   | inl outside ↦ by rest outside
 ]
   where
-    by : (more : List ℕ) → IsOutside n → Strayness n (60 ∷ more)
+    by : (more : List ℕ) → IsOutsideRoot n → Strayness n (60 ∷ more)
     by [] outside = inr (λ s. no_second s.byte s.more s.is)
     by (c ∷ more) outside = strayness_at n c more outside
 
 -- a mark turns what is open, or has a fault
-record TurnsTo (at : ℕ) (m : Mark) (n : Nest) : Type 0 where
+record TurnsTo (at : ℕ) (m : TextMark) (n : Nest) : Type 0 where
   next : Nest
   turns : Turns at m n next
 
-abbrev Turn : ℕ → Mark → Nest → List ℕ → Type 0
+abbrev Turn : ℕ → TextMark → Nest → List ℕ → Type 0
 Turn at m n rest = TurnsTo at m n ⊎ ((f : SqdFault) × IsFaultAt at n rest f)
 
-close_turns : (at : ℕ) (name after x : List ℕ) (n : Nest) → IsMark (close name after) → (IsStray n (mark_bytes (close name after) ++ x) → ⊥) → Turn at (close name after) n (mark_bytes (close name after) ++ x)
+close_turns : (at : ℕ) (name after x : List ℕ) (n : Nest) → IsWellFormedMark (close name after) → (IsStray n (mark_bytes (close name after) ++ x) → ⊥) → Turn at (close name after) n (mark_bytes (close name after) ++ x)
 close_turns at name after x n h calm = elim (open_or_not n) [
   | inl outside ↦ absurd (calm (record { byte = 47; more = (name ++ (after ++ 62 ∷ [])) ++ x; is = refl; outside = outside; tells = inl refl }))
   | inr inside ↦ elim (tells (bytes_eq inside.innermost.name name)) [
@@ -148,7 +148,7 @@ close_turns at name after x n h calm = elim (open_or_not n) [
   ]
 ]
 
-turn_of : (at : ℕ) (m : Mark) (x : List ℕ) (n : Nest) → IsMark m → (IsStray n (mark_bytes m ++ x) → ⊥) → Turn at m n (mark_bytes m ++ x)
+turn_of : (at : ℕ) (m : TextMark) (x : List ℕ) (n : Nest) → IsWellFormedMark m → (IsStray n (mark_bytes m ++ x) → ⊥) → Turn at m n (mark_bytes m ++ x)
 turn_of at (start t) x n h calm = inl (record { next = record { opened = n.opened ++ record { at = at; name = t.name } ∷ []; rooted = true }; turns = (tag_may_begin n t (62 ∷ []) x h calm, record { opened = refl; rooted = refl }) })
 turn_of at (empty t) x n h calm = inl (record { next = record { opened = n.opened; rooted = true }; turns = (tag_may_begin n t (47 ∷ 62 ∷ []) x h calm, record { opened = refl; rooted = refl }) })
 turn_of at (close name after) x n h calm = close_turns at name after x n h calm
@@ -164,11 +164,11 @@ record HasItem (at : ℕ) (n : Nest) (left : List ℕ) : Type 0 where
   next : Nest
   more : List ℕ
   is : left ≡ item_bytes item ++ more
-  passes : Passes at item n next
+  passes : PassesItem at item n next
 
 -- the text ends here, whole
 record Ends (n : Nest) (left : List ℕ) : Type 0 where
-  outside : IsOutside n
+  outside : IsOutsideRoot n
   blank : Each is_blank left
 
 data Step (at : ℕ) (n : Nest) (left : List ℕ) : Type 0 where

@@ -3,7 +3,7 @@ use Rattle.std.proofs.Common.{◌≡◌, ap, refl, ℕ, List, [], ◌∷◌, fal
 use Rattle.std.specs.Prelude.{codes}
 use Rattle.std.proofs.lemmas.Bool.{eqb-false}
 use Rattle.sqd_marks.specs.Marks.{start, comment, doctype}
-use Rattle.sqd_nesting.specs.Texts.{Item, IsItem, Opened, HasBegun, HasPassed, HasEnded, Turns, Passes, IsWhole, at_first}
+use Rattle.sqd_nesting.specs.Texts.{Item, IsItem, Opened, HasBegun, HasPassedElement, HasEnded, Turns, PassesItem, IsWhole, at_first}
 use Rattle.sqd_nesting.specs.Faults.{IsFirstFault}
 use Rattle.sqd_scan.specs.declared.fault.SqdFault.TheVariants.{BadMark, NotClosed, WrongClose, Doctype}
 use Rattle.sqd_nesting.proofs.Causes.{Laws}
@@ -35,7 +35,7 @@ begun_elsewhere h = eqb-false 3 4 refl (same_place 3 4 h.opened)
 begun_unrooted : HasBegun 4 (codes "b") at_first (record { opened = opened 4 (codes "b") ∷ []; rooted = false }) → ⊥
 begun_unrooted h = cc h.rooted
 
-passed_open : HasPassed at_first (nest (opened 0 (codes "a") ∷ [])) → ⊥
+passed_open : HasPassedElement at_first (nest (opened 0 (codes "a") ∷ [])) → ⊥
 passed_open h = cc h.opened
 
 ended_nothing : HasEnded (codes "a") (nest []) (nest []) → ⊥
@@ -44,7 +44,7 @@ ended_nothing h = cc h.opened
 no_doctype : Turns 0 doctype at_first at_first → ⊥
 no_doctype h = h
 
-loud_outside : Passes 0 (item (codes "x") (comment [])) at_first at_first → ⊥
+loud_outside : PassesItem 0 (item (codes "x") (comment [])) at_first at_first → ⊥
 loud_outside h =
     let blank = (h.quiet refl).0 in
     cc blank

@@ -2,7 +2,7 @@
 use Rattle.std.proofs.Common.{◌≡◌, refl, ℕ, List, [], ◌∷◌, true, inl, inr}
 use Rattle.std.specs.Prelude.{codes}
 use Rattle.std.proofs.lemmas.Bool.{eqb-false}
-use Rattle.sqd_marks.specs.Marks.{Tag, Mark, start, empty, close, comment, IsTag}
+use Rattle.sqd_marks.specs.Marks.{Tag, TextMark, start, empty, close, comment, IsTag}
 use Rattle.sqd_nesting.specs.Texts.{Item, Opened, Nest, IsWhole, at_first}
 use Rattle.sqd_nesting.specs.Faults.{IsFirstFault}
 use Rattle.sqd_scan.specs.declared.fault.SqdFault.TheVariants.{BadMark, NotClosed, WrongClose, Doctype}
@@ -11,7 +11,7 @@ use Rattle.sqd_scan.specs.declared.fault.SqdFault.TheVariants.{BadMark, NotClose
 abbrev pub tag : List ℕ → Tag
 tag name = record { name = name; attributes = []; after = [] }
 
-abbrev pub item : List ℕ → Mark → Item
+abbrev pub item : List ℕ → TextMark → Item
 item text mark = record { text = text; mark = mark }
 
 abbrev pub nest : List Opened → Nest

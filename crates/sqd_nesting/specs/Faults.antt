@@ -2,9 +2,9 @@
 use Rattle.std.specs.Prelude.{◌≡◌, ◌≢◌, ◌⊎◌, ℕ, ◌+◌, true, false, List, [], ◌∷◌, ◌++◌, length}
 use Rattle.std.specs.List.{flat_map}
 use Rattle.sqd_marks.specs.Bytes.{is_blank, begins_name, Each}
-use Rattle.sqd_marks.specs.Marks.{Mark, close, doctype, cdata, IsMark, mark_bytes}
+use Rattle.sqd_marks.specs.Marks.{TextMark, close, doctype, cdata, IsWellFormedMark, mark_bytes}
 use Rattle.sqd_scan.specs.Fronts.{IsCut, IsBadAt}
-use Rattle.sqd_nesting.specs.Texts.{is_text, item_bytes, Item, Opened, Nest, IsOutside, IsQuiet, mark_len, Begins}
+use Rattle.sqd_nesting.specs.Texts.{is_text, item_bytes, Item, Opened, Nest, IsOutsideRoot, IsQuiet, mark_len, Begins}
 use Rattle.sqd_scan.specs.declared.fault.SqdFault.{SqdFault}
 use Rattle.sqd_scan.specs.declared.fault.SqdFault.TheVariants.{BadMark, NotClosed, WrongClose, Doctype, Cdata}
 
@@ -24,26 +24,26 @@ pub record HasOther (name : List ℕ) (n : Nest) : Type 0 where
 
 -- nothing is open, or the innermost element has another name
 abbrev pub EndsOther : List ℕ → Nest → Type 0
-EndsOther name n = IsOutside n ⊎ HasOther name n
+EndsOther name n = IsOutsideRoot n ⊎ HasOther name n
 
 -- an element's begin or end that may not stand here: the byte behind `<` (60) tells, as `/` (47)
 pub record IsStray (n : Nest) (rest : List ℕ) : Type 0 where
   pub byte : ℕ
   pub more : List ℕ
   pub is : rest ≡ 60 ∷ byte ∷ more
-  pub outside : IsOutside n
+  pub outside : IsOutsideRoot n
   pub tells : (byte ≡ 47) ⊎ ((n.rooted ≡ true) × (begins_name byte ≡ true))
 
 -- the bytes begin with this mark
-abbrev pub BeginsWith : Mark → List ℕ → Type 0
-BeginsWith m rest = (more : List ℕ) × (rest ≡ mark_bytes m ++ more)
+abbrev pub BeginsWithMark : TextMark → List ℕ → Type 0
+BeginsWithMark m rest = (more : List ℕ) × (rest ≡ mark_bytes m ++ more)
 
 -- a whole end mark, of another name than the innermost element that isn't closed
 pub record IsWrongClose (n : Nest) (rest : List ℕ) : Type 0 where
   pub name : List ℕ
   pub after : List ℕ
-  pub valid : IsMark (close name after)
-  pub begins : BeginsWith (close name after) rest
+  pub valid : IsWellFormedMark (close name after)
+  pub begins : BeginsWithMark (close name after) rest
   pub other : HasOther name n
 
 -- the text ends inside a mark that may stand here
@@ -64,8 +64,8 @@ pub record IsBroken (j : ℕ) (n : Nest) (rest : List ℕ) : Type 0 where
 
 -- the fault of what is left from this place on, behind text that may stand, where this is open
 abbrev pub IsFaultAt : ℕ → Nest → List ℕ → SqdFault → Type 0
-IsFaultAt at n rest (Doctype k) = (k ≡ at) × BeginsWith doctype rest
-IsFaultAt at n rest (Cdata k) = (k ≡ at) × BeginsWith cdata rest
+IsFaultAt at n rest (Doctype k) = (k ≡ at) × BeginsWithMark doctype rest
+IsFaultAt at n rest (Cdata k) = (k ≡ at) × BeginsWithMark cdata rest
 IsFaultAt at n rest (WrongClose k) = (k ≡ at) × IsWrongClose n rest
 IsFaultAt at n rest (NotClosed k) = ((k ≡ at) × EndsInside n rest) ⊎ EndsOpen k n rest
 IsFaultAt at n rest (BadMark k) =
@@ -74,7 +74,7 @@ IsFaultAt at n rest _ = ⊥
 
 -- text outside the root that isn't blank
 pub record IsLoud (at : ℕ) (nest : Nest) (text : List ℕ) (fault : SqdFault) : Type 0 where
-  pub outside : IsOutside nest
+  pub outside : IsOutsideRoot nest
   pub blanks : List ℕ
   pub byte : ℕ
   pub more : List ℕ

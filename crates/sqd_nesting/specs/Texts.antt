@@ -2,12 +2,12 @@
 use Rattle.std.specs.Prelude.{◌≡◌, ℕ, ◌+◌, Bool, true, false, not, eqb, nat_eq, cond, List, [], ◌∷◌, ◌++◌, length, drop}
 use Rattle.std.specs.List.{flat_map, starts_with, AllByRecursion}
 use Rattle.sqd_marks.specs.Bytes.{is_blank, Each}
-use Rattle.sqd_marks.specs.Marks.{Mark, start, empty, close, comment, declaration, doctype, cdata, IsMark, mark_bytes}
+use Rattle.sqd_marks.specs.Marks.{TextMark, start, empty, close, comment, declaration, doctype, cdata, IsWellFormedMark, mark_bytes}
 
 -- a mark, and the text before it
 pub record Item : Type 0 where
   pub text : List ℕ
-  pub mark : Mark
+  pub mark : TextMark
 
 -- a byte of text between marks: any but `<`
 abbrev pub is_text : ℕ → Bool
@@ -20,7 +20,7 @@ item_bytes i = i.text ++ mark_bytes i.mark
 -- an item as it may be
 pub record IsItem (i : Item) : Type 0 where
   pub text : Each is_text i.text
-  pub mark : IsMark i.mark
+  pub mark : IsWellFormedMark i.mark
 
 -- an element that isn't closed: the place of its `<`, and its name
 pub record Opened : Type 0 where
@@ -33,12 +33,12 @@ pub record Nest : Type 0 where
   pub rooted : Bool
 
 -- nothing is open
-abbrev pub IsOutside : Nest → Type 0
-IsOutside n = n.opened ≡ []
+abbrev pub IsOutsideRoot : Nest → Type 0
+IsOutsideRoot n = n.opened ≡ []
 
 -- an element may begin: there is one root
 abbrev pub MayBegin : Nest → Type 0
-MayBegin n = IsOutside n → n.rooted ≡ false
+MayBegin n = IsOutsideRoot n → n.rooted ≡ false
 
 -- an element of this name has begun at this place
 pub record HasBegun (at : ℕ) (name : List ℕ) (old new : Nest) : Type 0 where
@@ -46,7 +46,7 @@ pub record HasBegun (at : ℕ) (name : List ℕ) (old new : Nest) : Type 0 where
   pub rooted : new.rooted ≡ true
 
 -- an element has begun and ended at once
-pub record HasPassed (old new : Nest) : Type 0 where
+pub record HasPassedElement (old new : Nest) : Type 0 where
   pub opened : new.opened ≡ old.opened
   pub rooted : new.rooted ≡ true
 
@@ -58,9 +58,9 @@ pub record HasEnded (name : List ℕ) (old new : Nest) : Type 0 where
   pub rooted : new.rooted ≡ old.rooted
 
 -- what is open after a mark whose `<` stands at this place
-abbrev pub Turns : ℕ → Mark → Nest → Nest → Type 0
+abbrev pub Turns : ℕ → TextMark → Nest → Nest → Type 0
 Turns at (start t) old new = MayBegin old × HasBegun at t.name old new
-Turns at (empty t) old new = MayBegin old × HasPassed old new
+Turns at (empty t) old new = MayBegin old × HasPassedElement old new
 Turns at (close name after) old new = HasEnded name old new
 Turns at (comment inner) old new = new ≡ old
 Turns at (declaration inner) old new = new ≡ old
@@ -69,10 +69,10 @@ Turns at cdata old new = ⊥
 
 -- outside the root there are only blanks
 abbrev pub IsQuiet : Nest → List ℕ → Type 0
-IsQuiet n text = IsOutside n → Each is_blank text
+IsQuiet n text = IsOutsideRoot n → Each is_blank text
 
 -- what is open after an item that begins at this place
-pub record Passes (at : ℕ) (i : Item) (old new : Nest) : Type 0 where
+pub record PassesItem (at : ℕ) (i : Item) (old new : Nest) : Type 0 where
   pub quiet : IsQuiet old i.text
   pub turns : Turns (at + length i.text) i.mark old new
 
@@ -80,7 +80,7 @@ pub record Passes (at : ℕ) (i : Item) (old new : Nest) : Type 0 where
 abbrev pub Nested : ℕ → Nest → List Item → Nest → Type 0
 Nested at old [] new = old ≡ new
 Nested at old (i ∷ items) new =
-    (next : Nest) × Passes at i old next × Nested (at + length (item_bytes i)) next items new
+    (next : Nest) × PassesItem at i old next × Nested (at + length (item_bytes i)) next items new
 
 -- before the root
 abbrev pub at_first : Nest
@@ -101,5 +101,5 @@ pub record IsWhole (text : List ℕ) (items : List Item) : Type 0 where
   pub nest : Nest
   pub rest : List ℕ
   pub begins : Begins text items nest rest
-  pub closed : IsOutside nest
+  pub closed : IsOutsideRoot nest
   pub blank : Each is_blank rest

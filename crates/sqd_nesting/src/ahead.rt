@@ -1,7 +1,7 @@
 ghost use Rattle.std.specs.Prelude.{◌≡◌, ◌≤◌, ◌<◌, ◌+◌, ◌↔◌, ◌-◌, ◌^◌, take, drop, length, IfOk, IfErr, IfSome, IfNone, IsTrue, false, slice_index};
 ghost use Rattle.sqd_marks.specs.Bytes;
 ghost use Rattle.sqd_marks.specs.Bytes.{Each};
-ghost use Rattle.sqd_nesting.specs.Texts.{IsOutside, IsQuiet};
+ghost use Rattle.sqd_nesting.specs.Texts.{IsOutsideRoot, IsQuiet};
 ghost use Rattle.sqd_nesting.specs.Faults.{IsStray, IsFaultIn};
 ghost use Rattle.sqd_nesting.specs.Views.{nest_of, IsAhead};
 
@@ -21,7 +21,7 @@ pub struct Ahead {
 // Where text outside the root isn't blank.
 fn loud_at(between: &[u8], nesting: &Nesting) -> Option<usize>
     ensures none { IfNone result (IsQuiet (nest_of nesting.now) between.now) }
-    ensures outside { IfSome result (λ at. IsOutside (nest_of nesting.now)) }
+    ensures outside { IfSome result (λ at. IsOutsideRoot (nest_of nesting.now)) }
     ensures within { IfSome result (λ at. at < length between.now) }
     ensures before { IfSome result (λ at. Each Bytes.is_blank (take at between.now)) }
     ensures found { IfSome result (λ at. Bytes.is_blank (slice_index between.now at) ≡ false) }

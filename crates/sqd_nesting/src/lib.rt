@@ -8,6 +8,6 @@ mod nest;
 mod read;
 mod text_marks;
 
-pub use read::Found;
+pub use read::PlacedMark;
 pub use sqd_scan::SqdFault;
 pub use text_marks::read_marks;

@@ -1,6 +1,6 @@
 ghost use Rattle.std.specs.Prelude.{◌≡◌, ◌⊎◌, ◌++◌, ℕ, List, map, IfOk, IfErr, IfNone, IfSome, IsTrue, ◌↔◌};
-ghost use Rattle.sqd_marks.specs.Marks.{Mark, IsMark, kind_of, mark_bytes};
-ghost use Rattle.sqd_nesting.specs.Texts.{Turns, IsOutside, HasBegun, HasEnded};
+ghost use Rattle.sqd_marks.specs.Marks.{TextMark, IsWellFormedMark, kind_of_mark, mark_bytes};
+ghost use Rattle.sqd_nesting.specs.Texts.{Turns, IsOutsideRoot, HasBegun, HasEnded};
 ghost use Rattle.sqd_nesting.specs.Faults.{IsFaultAt, IsStray, EndsOther, HasInnermost};
 ghost use Rattle.sqd_nesting.specs.Views.{nest_of};
 ghost use Rattle.sqd_scan.specs.declared.fault.SqdFault.TheVariants.{Memory, WrongClose};
@@ -26,7 +26,7 @@ pub struct Nesting<'a> {
 impl<'a> Nesting<'a> {
     /// Whether nothing is open.
     pub fn is_outside(&self) -> bool
-        ensures { IsTrue result ↔ IsOutside (nest_of self.now) }
+        ensures { IsTrue result ↔ IsOutsideRoot (nest_of self.now) }
     {
         self.opened.is_empty()
     }
@@ -72,12 +72,12 @@ pub fn turn<'a>(
     kind: Kind,
     mark: &'a [u8],
 ) -> Result<Nesting<'a>, SqdFault>
-    ensures ok { IfOk result (λ new. (m : Mark) (more : List ℕ)
-        → IsMark m → kind_of m ≡ kind → mark_bytes m ≡ mark.now
+    ensures ok { IfOk result (λ new. (m : TextMark) (more : List ℕ)
+        → IsWellFormedMark m → kind_of_mark m ≡ kind → mark_bytes m ≡ mark.now
         → (IsStray (nest_of nesting.entry) (mark.now ++ more) → ⊥)
         → Turns at m (nest_of nesting.entry) (nest_of new)) }
-    ensures err { IfErr result (λ fault. (fault ≡ Memory) ⊎ ((m : Mark) (more : List ℕ)
-        → IsMark m → kind_of m ≡ kind → mark_bytes m ≡ mark.now
+    ensures err { IfErr result (λ fault. (fault ≡ Memory) ⊎ ((m : TextMark) (more : List ℕ)
+        → IsWellFormedMark m → kind_of_mark m ≡ kind → mark_bytes m ≡ mark.now
         → (IsStray (nest_of nesting.entry) (mark.now ++ more) → ⊥)
         → IsFaultAt at (nest_of nesting.entry) (mark.now ++ more) fault)) }
 {
@@ -100,7 +100,7 @@ pub fn turn<'a>(
 
 /// Where the innermost element that isn't closed begins.
 pub fn unclosed(nesting: Nesting) -> Option<usize>
-    ensures none { IfNone result (IsOutside (nest_of nesting.entry)) }
+    ensures none { IfNone result (IsOutsideRoot (nest_of nesting.entry)) }
     ensures some { IfSome result (λ at. HasInnermost at (nest_of nesting.entry)) }
 {
     let mut opened = nesting.opened;

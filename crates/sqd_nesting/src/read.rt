@@ -1,5 +1,5 @@
 ghost use Rattle.std.specs.Prelude.{◌≡◌, ◌≤◌, ◌<◌, ◌+◌, ◌^◌, take, drop, length, IfOk, IfErr};
-ghost use Rattle.sqd_nesting.specs.Views.{nest_of, IsNext, IsStep, IsPassed, IsFaultOrMemory};
+ghost use Rattle.sqd_nesting.specs.Views.{nest_of, IsMarkAhead, IsItemOrEnd, IsPassed, IsFaultOrMemory};
 
 use crate::SqdFault;
 use crate::ahead::{Ahead, next_mark};
@@ -8,7 +8,7 @@ use sqd_marks::Kind;
 
 /// A mark of a text: the place of its `<`, its form and its bytes.
 #[derive(Clone, Copy)]
-pub struct Found<'a> {
+pub struct PlacedMark<'a> {
     /// Counted in bytes from 0.
     pub at: usize,
     pub kind: Kind,
@@ -18,7 +18,7 @@ pub struct Found<'a> {
 
 /// What is left of a text, from a place on, and what is open there.
 #[derive(Drop)]
-pub struct Reader<'a> {
+pub struct MarksReader<'a> {
     pub at: usize,
     pub left: &'a [u8],
     pub nesting: Nesting<'a>,
@@ -27,8 +27,8 @@ pub struct Reader<'a> {
 /// A mark, and what is left behind it.
 #[derive(Drop)]
 pub struct Passed<'a> {
-    pub found: Found<'a>,
-    pub behind: Reader<'a>,
+    pub found: PlacedMark<'a>,
+    pub behind: MarksReader<'a>,
 }
 
 // A mark, and the bytes behind it.
@@ -51,9 +51,9 @@ fn cut_at(left: &[u8], gap: usize, len: usize) -> Cut
 }
 
 // Passes the mark that is ahead.
-fn pass<'a>(reader: Reader<'a>, ahead: Ahead) -> Result<Passed<'a>, SqdFault>
+fn pass<'a>(reader: MarksReader<'a>, ahead: Ahead) -> Result<Passed<'a>, SqdFault>
     requires room { reader.at + length reader.left.now < 2 ^ 64 }
-    requires next { IsNext (nest_of reader.nesting) reader.left.now ahead }
+    requires next { IsMarkAhead (nest_of reader.nesting) reader.left.now ahead }
     ensures ok { IfOk result (IsPassed reader.entry.at (nest_of reader.entry.nesting)
         reader.entry.left.now) }
     ensures err { IfErr result (IsFaultOrMemory reader.entry.at (nest_of reader.entry.nesting)
@@ -63,12 +63,12 @@ fn pass<'a>(reader: Reader<'a>, ahead: Ahead) -> Result<Passed<'a>, SqdFault>
     let here = reader.at + ahead.gap;
     let nesting = turn(reader.nesting, here, ahead.whole.kind, cut.bytes)?;
     Ok(Passed {
-        found: Found {
+        found: PlacedMark {
             at: here,
             kind: ahead.whole.kind,
             bytes: cut.bytes,
         },
-        behind: Reader {
+        behind: MarksReader {
             at: here + ahead.whole.len,
             left: cut.behind,
             nesting,
@@ -77,9 +77,9 @@ fn pass<'a>(reader: Reader<'a>, ahead: Ahead) -> Result<Passed<'a>, SqdFault>
 }
 
 /// The next mark, or that the text is whole, or its fault.
-pub fn next_item<'a>(reader: Reader<'a>) -> Result<Option<Passed<'a>>, SqdFault>
+pub fn next_item<'a>(reader: MarksReader<'a>) -> Result<Option<Passed<'a>>, SqdFault>
     requires { reader.at + length reader.left.now < 2 ^ 64 }
-    ensures ok { IfOk result (IsStep reader.entry.at (nest_of reader.entry.nesting)
+    ensures ok { IfOk result (IsItemOrEnd reader.entry.at (nest_of reader.entry.nesting)
         reader.entry.left.now) }
     ensures err { IfErr result (IsFaultOrMemory reader.entry.at (nest_of reader.entry.nesting)
         reader.entry.left.now) }

@@ -6,12 +6,12 @@ ghost use Rattle.sqd_nesting.specs.Views.{IsRead};
 use crate::SqdFault;
 use crate::between::bom_len;
 use crate::nest::Nesting;
-use crate::read::{Found, Reader, next_item};
+use crate::read::{MarksReader, PlacedMark, next_item};
 use std::alloc::Global;
 
 /// The marks of the text in their order, where they nest, or its first fault, or `Memory`. Each byte is read a
 /// few times, however deep elements lie in each other.
-pub fn read_marks(alloc: Global, text: &[u8]) -> Result<Vec<Found>, SqdFault>
+pub fn read_marks(alloc: Global, text: &[u8]) -> Result<Vec<PlacedMark>, SqdFault>
     ensures whole { IfOk result (λ found. IsRead text.now found.items) }
     ensures refused { IfErr result (λ fault. (fault ≡ OutOfMemory) ⊎ IsFirstFault text.now fault) }
 {
@@ -20,7 +20,7 @@ pub fn read_marks(alloc: Global, text: &[u8]) -> Result<Vec<Found>, SqdFault>
         opened: Vec::new(alloc),
         rooted: false,
     };
-    let mut reader = Reader {
+    let mut reader = MarksReader {
         at,
         left: &text[at..],
         nesting,

@@ -4,7 +4,7 @@ use Rattle.std.specs.List.{flat_map, AllByRecursion}
 use Rattle.std.specs.Prelude.{codes}
 use Rattle.std.proofs.lemmas.Bool.{eqb-true, eq-eqb}
 use Rattle.sqd_marks.specs.Bytes.{is_blank, is_in_name, Each, IsName, is_in_value}
-use Rattle.sqd_marks.specs.Marks.{Attribute, IsAttribute, Tag, IsTag, Mark, start, empty, close, comment, declaration, doctype, cdata, IsMark, attribute_bytes, tag_bytes, mark_bytes, kind_of, IsWithout}
+use Rattle.sqd_marks.specs.Marks.{Attribute, IsAttribute, Tag, IsTag, TextMark, start, empty, close, comment, declaration, doctype, cdata, IsWellFormedMark, attribute_bytes, tag_bytes, mark_bytes, kind_of_mark, IsWithout}
 use Rattle.sqd_scan.specs.Scanning.{step}
 use Rattle.sqd_marks.specs.declared.kind.Kind.TheVariants as kinds
 use Rattle.sqd_scan.specs.declared.stage.Stage.{Stage}
@@ -184,7 +184,7 @@ declaration_runs (b ∷ c) =
     }
 
 -- each mark is passed
-pub complete : (m : Mark) → IsMark m → run Begin (mark_bytes m) ≡ Some (Done (kind_of m))
+pub complete : (m : TextMark) → IsWellFormedMark m → run Begin (mark_bytes m) ≡ Some (Done (kind_of_mark m))
 complete (start t) h = tag_ends t h
 complete (empty t) h = empty_ends t h
 complete (close name after) h = end_name_run name (after ++ 62 ∷ []) h.0 ∙ end_gap_run after h.1

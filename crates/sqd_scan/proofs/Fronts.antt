@@ -4,7 +4,7 @@ use Rattle.std.specs.Prelude.{codes}
 use Rattle.std.proofs.lemmas.Bool.{eqb-false, eq-eqb}
 use Rattle.std.proofs.lemmas.List.{take_more, take-append-drop, length-take-le, take_all}
 use Rattle.sqd_marks.specs.Bytes.{is_blank}
-use Rattle.sqd_marks.specs.Marks.{kind_of}
+use Rattle.sqd_marks.specs.Marks.{kind_of_mark}
 use Rattle.sqd_scan.specs.Fronts.{IsOf, IsFront, IsCut, IsBadAt}
 use Rattle.sqd_scan.specs.Scanning.{step, kind_done}
 use Rattle.sqd_marks.specs.declared.kind.Kind.{Kind}
@@ -148,7 +148,7 @@ cut_of p stage e d =
 pub no_front : (p : List ℕ) (stage : Stage) (b : ℕ) → run Begin p ≡ Some stage → step stage b ≡ None → IsFront (p ++ b ∷ []) → ⊥
 no_front p stage b e dead h =
     let stuck : run Begin (p ++ b ∷ []) ≡ None = run_append (Some Begin) p (b ∷ []) ∙ ap (λ o. then o (b ∷ [])) e ∙ ap (λ o. then o []) dead in
-    let none : Some (Done (kind_of h.mark)) ≡ None = sym (complete h.mark h.valid) ∙ ap (run Begin) h.spelled ∙ run_append (Some Begin) (p ++ b ∷ []) h.more ∙ ap (λ o. then o h.more) stuck in
+    let none : Some (Done (kind_of_mark h.mark)) ≡ None = sym (complete h.mark h.valid) ∙ ap (run Begin) h.spelled ∙ run_append (Some Begin) (p ++ b ∷ []) h.more ∙ ap (λ o. then o h.more) stuck in
     cc none
 
 pub bad_of : (text p more : List ℕ) (stage : Stage) (b : ℕ) → text ≡ p ++ b ∷ more → run Begin p ≡ Some stage → kind_done stage ≡ None → step stage b ≡ None → IsBadAt text (length p)

@@ -5,7 +5,7 @@ use Rattle.std.proofs.lemmas.List.{append-nil}
 use Rattle.sqd_scan.specs.Fronts.{IsFront, IsCut, IsBadAt, IsFaultOf}
 use Rattle.sqd_scan.specs.declared.fault.SqdFault.{SqdFault}
 use Rattle.sqd_scan.specs.declared.fault.SqdFault.TheVariants.{BadMark, NotClosed}
-use Rattle.sqd_marks.specs.Marks.{Mark, IsMark, mark_bytes, kind_of}
+use Rattle.sqd_marks.specs.Marks.{TextMark, IsWellFormedMark, mark_bytes, kind_of_mark}
 use Rattle.sqd_scan.specs.Scanning.{step}
 use Rattle.sqd_scan.proofs.Runs.{then, run}
 use Rattle.sqd_marks.specs.declared.kind.Kind.{Kind}
@@ -31,26 +31,26 @@ same_end (Some stage) (c ∷ a) (d ∷ b) x y j k h g e =
     cc (first, same)
 
 -- two marks that one text begins with have the same bytes
-same_spelling : (m n : Mark) (x y : List ℕ) → IsMark m → IsMark n → mark_bytes m ++ x ≡ mark_bytes n ++ y → mark_bytes m ≡ mark_bytes n
-same_spelling m n x y h g e = same_end (Some Begin) (mark_bytes m) (mark_bytes n) x y (kind_of m) (kind_of n) (complete m h) (complete n g) e
+same_spelling : (m n : TextMark) (x y : List ℕ) → IsWellFormedMark m → IsWellFormedMark n → mark_bytes m ++ x ≡ mark_bytes n ++ y → mark_bytes m ≡ mark_bytes n
+same_spelling m n x y h g e = same_end (Some Begin) (mark_bytes m) (mark_bytes n) x y (kind_of_mark m) (kind_of_mark n) (complete m h) (complete n g) e
 
 -- marks of one kind with the same bytes are one
 abbrev pub OneSpelling : Type 0
-OneSpelling = (m n : Mark) → IsMark m → IsMark n → kind_of m ≡ kind_of n → mark_bytes m ≡ mark_bytes n → m ≡ n
+OneSpelling = (m n : TextMark) → IsWellFormedMark m → IsWellFormedMark n → kind_of_mark m ≡ kind_of_mark n → mark_bytes m ≡ mark_bytes n → m ≡ n
 
-pub of_kind : (m n : Mark) → IsMark m → IsMark n → mark_bytes m ≡ mark_bytes n → kind_of m ≡ kind_of n
+pub of_kind : (m n : TextMark) → IsWellFormedMark m → IsWellFormedMark n → mark_bytes m ≡ mark_bytes n → kind_of_mark m ≡ kind_of_mark n
 of_kind m n h g e =
-    let same : Some (Done (kind_of m)) ≡ Some (Done (kind_of n)) = sym (complete m h) ∙ ap (run Begin) e ∙ complete n g in
+    let same : Some (Done (kind_of_mark m)) ≡ Some (Done (kind_of_mark n)) = sym (complete m h) ∙ ap (run Begin) e ∙ complete n g in
     cc same
 
 -- a text begins with one mark
-pub one_mark : OneSpelling → (m n : Mark) (x y : List ℕ) → IsMark m → IsMark n → mark_bytes m ++ x ≡ mark_bytes n ++ y → m ≡ n
+pub one_mark : OneSpelling → (m n : TextMark) (x y : List ℕ) → IsWellFormedMark m → IsWellFormedMark n → mark_bytes m ++ x ≡ mark_bytes n ++ y → m ≡ n
 one_mark law m n x y h g e =
     let same = same_spelling m n x y h g e in
     law m n h g (of_kind m n h g same) same
 
 -- bytes that end inside a mark begin with none
-cut_no_mark : (bytes : List ℕ) (m : Mark) (x : List ℕ) → IsCut bytes → IsMark m → bytes ≡ mark_bytes m ++ x → ⊥
+cut_no_mark : (bytes : List ℕ) (m : TextMark) (x : List ℕ) → IsCut bytes → IsWellFormedMark m → bytes ≡ mark_bytes m ++ x → ⊥
 cut_no_mark bytes m x h g e =
     let longer : mark_bytes h.mark ++ [] ≡ mark_bytes m ++ (x ++ h.next ∷ h.more) = append-nil (mark_bytes h.mark) ∙ h.spelled ∙ ap (λ b. b ++ h.next ∷ h.more) e ∙ append_assoc (mark_bytes m) x (h.next ∷ h.more) in
     let same = same_spelling h.mark m [] (x ++ h.next ∷ h.more) h.valid g longer in
@@ -88,14 +88,14 @@ ends_or_takes (c ∷ f) more (d ∷ m) x b e =
     ]
 
 -- bytes with a bad byte begin with no mark
-bad_no_mark : (bytes : List ℕ) (at : ℕ) (m : Mark) (x : List ℕ) → IsBadAt bytes at → IsMark m → bytes ≡ mark_bytes m ++ x → ⊥
+bad_no_mark : (bytes : List ℕ) (at : ℕ) (m : TextMark) (x : List ℕ) → IsBadAt bytes at → IsWellFormedMark m → bytes ≡ mark_bytes m ++ x → ⊥
 bad_no_mark bytes at m x h g e = elim (ends_or_takes h.front h.more (mark_bytes m) x h.bad (sym h.is ∙ e)) [
   | inl ends ↦ cut_no_mark h.front m ends.more h.good g ends.is
   | inr takes ↦ h.wrong (record { mark = m; valid = g; more = takes.more; spelled = takes.is })
 ]
 
 -- bytes that begin with a mark have no fault of a mark
-pub no_fault : (at : ℕ) (bytes : List ℕ) (m : Mark) (x : List ℕ) (fault : SqdFault) → IsMark m → bytes ≡ mark_bytes m ++ x → IsFaultOf at bytes fault → ⊥
+pub no_fault : (at : ℕ) (bytes : List ℕ) (m : TextMark) (x : List ℕ) (fault : SqdFault) → IsWellFormedMark m → bytes ≡ mark_bytes m ++ x → IsFaultOf at bytes fault → ⊥
 no_fault at bytes m x (NotClosed k) g e h = cut_no_mark bytes m x h.1 g e
 no_fault at bytes m x (BadMark k) g e h = bad_no_mark bytes h.0 m x h.2 g e
 no_fault at bytes m x _ g e h = absurd h

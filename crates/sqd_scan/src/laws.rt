@@ -1,13 +1,13 @@
 //! What the marks in front of bytes promise.
 ghost use Rattle.std.specs.Prelude.{◌≡◌, ◌⊎◌, ℕ, List, ◌++◌};
-ghost use Rattle.sqd_marks.specs.Marks.{Mark, IsMark, mark_bytes};
+ghost use Rattle.sqd_marks.specs.Marks.{TextMark, IsWellFormedMark, mark_bytes};
 ghost use Rattle.sqd_scan.specs.Fronts.{HasMark, IsFaultOf};
 ghost use Rattle.sqd_scan.specs.declared.fault.SqdFault.{SqdFault as FaultData};
 
 /// Bytes begin with one mark at most, each name, blank, quote and value of it; so no mark is the
 /// front of another.
 pub fn one_mark()
-    ensures { (m n : Mark) (x y : List ℕ) → IsMark m → IsMark n
+    ensures { (m n : TextMark) (x y : List ℕ) → IsWellFormedMark m → IsWellFormedMark n
         → mark_bytes m ++ x ≡ mark_bytes n ++ y → m ≡ n }
 {
     sqd_marks::laws::one_spelling();
@@ -16,8 +16,8 @@ pub fn one_mark()
 /// Bytes that begin with a mark don't end inside one, and no byte of theirs is the first that
 /// continues none.
 pub fn no_mark_fault()
-    ensures { (at : ℕ) (bytes : List ℕ) (m : Mark) (x : List ℕ) (fault : FaultData)
-        → IsMark m → bytes ≡ mark_bytes m ++ x → IsFaultOf at bytes fault → ⊥ }
+    ensures { (at : ℕ) (bytes : List ℕ) (m : TextMark) (x : List ℕ) (fault : FaultData)
+        → IsWellFormedMark m → bytes ≡ mark_bytes m ++ x → IsFaultOf at bytes fault → ⊥ }
 {}
 
 /// Bytes that begin with no mark have one reason for it.

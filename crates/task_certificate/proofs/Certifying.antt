@@ -8,7 +8,7 @@ use Rattle.sidb_units.specs.declared.TheConstants.{MAX_ENTRIES, MAX_NODES}
 use Rattle.command_words.specs.declared.settings.Settings.{Settings}
 use Rattle.ground_entries.specs.declared.ground_list.Solved.{Solved}
 use Rattle.ground_report.specs.declared.about.About.{About}
-use Rattle.ground_state.specs.Answer.{IsListedWithin, IsSolution, IsTooLongWithin, IsWithinBudget, IsOverBudget}
+use Rattle.ground_state.specs.Answer.{IsListedWithin, IsSolution, IsTooLongWithin, IsWithinLimit, IsOverLimit}
 use Rattle.certificate_model.specs.declared.token.Token.{Token}
 use Rattle.certificate_model.specs.Certificates.{IsSound}
 use Rattle.walk_model.specs.Walks.{AreWalked}
@@ -64,11 +64,11 @@ written_so laws d valid marked least old new result took =
 pub record PartsAreOne : Type 0 where
   pub own : (p : Problem) (a b : List ℕ) → IsOwnCertificate p a → IsOwnCertificate p b → a ≡ b
   pub length : (p : Problem) (limit : ℕ) (es : List Entry) → IsListedWithin p limit es → IsTooLongWithin p limit → ⊥
-  pub budget : (p : Problem) (limit : ℕ) → IsWithinBudget p limit → IsOverBudget p limit → ⊥
+  pub budget : (p : Problem) (limit : ℕ) → IsWithinLimit p limit → IsOverLimit p limit → ⊥
 
 module _ (one : PartsAreOne) (s : Settings) (p : Problem) where
   -- a problem with a certificate is within the budget
-  budget_of : (text : List ℕ) → IsCertificateWithin p s.search.limit text → IsWithinBudget p s.search.limit
+  budget_of : (text : List ℕ) → IsCertificateWithin p s.search.limit text → IsWithinLimit p s.search.limit
   budget_of text is = (is.own.bound, is.own.least, is.within)
 
   same_unlisted : (a b : Status) (t u : List ℕ) → IsUnlisted s p a t → IsUnlisted s p b u → (a ≡ b) × (t ≡ u)

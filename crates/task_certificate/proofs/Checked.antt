@@ -8,7 +8,7 @@ use Rattle.certificate_model.specs.declared.refusal.CertRefusal.TheVariants as r
 use Rattle.certificate_model.specs.Certificates.{FitsProblem}
 use Rattle.certificate_check.specs.Checking.{Checking, HasPassed, IsNoCertificate, IsNoOpening, IsOpening}
 use Rattle.certificate_reading.specs.declared.front.CertFront.{CertFront}
-use Rattle.certificate_reading.specs.Texts.{IsCertText, IsFront}
+use Rattle.certificate_reading.specs.Texts.{IsCertText, IsCertificateFront}
 
 -- a checker that has taken no token has room for all tokens of a text
 pub opening_room : (p : Problem) (es : List Entry) (s : Checking) → IsOpening p (pos 0) es s → (taken : List Token) × HasPassed s taken × (length taken ≤ 2 ^ 63)
@@ -23,7 +23,7 @@ no_opening p es refusal.Long told tokens = told tokens
 no_opening p es refusal.Memory told tokens = tt
 
 -- the entries of a text have a charge for each site
-pub front_fits : ((text : List ℕ) (p : Problem) (es : List Entry) (ts : List Token) → IsCertText p es ts text → FitsProblem p es) → (text : List ℕ) (front : CertFront) → IsFront text front → FitsProblem front.problem front.list
+pub front_fits : ((text : List ℕ) (p : Problem) (es : List Entry) (ts : List Token) → IsCertText p es ts text → FitsProblem p es) → (text : List ℕ) (front : CertFront) → IsCertificateFront text front → FitsProblem front.problem front.list
 front_fits lists text front is = lists text front.problem front.list is.0 is.1.of
 
 -- what holds for each list of tokens after Ok, and after an error

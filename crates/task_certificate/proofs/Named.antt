@@ -8,12 +8,12 @@ use Rattle.table_reading.specs.declared.fault.LineWhy.TheVariants as why
 use Rattle.table_reading.specs.declared.fault.TableFault.{TableFault}
 use Rattle.table_reading.specs.declared.fault.TableFault.TheVariants as table
 use Rattle.table_reading.specs.Kinds.{spans_of}
-use Rattle.table_reading.specs.Ranges.{fault_in, has_many_sites, has_many_fixed, is_in_range, is_reversed, twice_in}
-use Rattle.table_reading.specs.Reading.{IsFaultAt, IsFrontFault, IsLack}
+use Rattle.table_reading.specs.Ranges.{fault_in, has_many_sites, has_many_fixed, is_table_line_in_range, is_reversed, twice_in}
+use Rattle.table_reading.specs.Reading.{IsTableRowFault, IsFrontFault, IsLack}
 use Rattle.certificate_model.specs.declared.token.Token.{Token}
 use Rattle.certificate_model.specs.declared.refusal.CertRefusal.{CertRefusal}
 use Rattle.certificate_model.specs.declared.refusal.CertRefusal.TheVariants as refusal
-use Rattle.certificate_model.specs.Certificates.{IsRefusal}
+use Rattle.certificate_model.specs.Certificates.{IsCertificateRefusal}
 use Rattle.certificate_reading.specs.declared.fault.CertText.{CertText}
 use Rattle.certificate_reading.specs.declared.fault.CertText.TheVariants as cert
 use Rattle.certificate_reading.specs.Texts.{IsCertFault}
@@ -50,12 +50,12 @@ unfolding IsOther
 no_line_fault before number l =
     one_of (has_many_sites l) (Some table.TooMany) _ (λ e. absurd (cc))
     (one_of (has_many_fixed l) (Some table.TooManyFixed) _ (λ e. absurd (cc))
-    (one_of (not (is_in_range before l)) (Some (table.Line number why.Range)) _ (λ e. absurd (cc))
+    (one_of (not (is_table_line_in_range before l)) (Some (table.Line number why.Range)) _ (λ e. absurd (cc))
     (one_of (is_reversed l) (Some (table.BadSpan (length (spans_of before)))) _ (λ e. absurd (cc))
     (no_twice before l))))
 
 -- the fault of a row
-no_row_fault : (number : ℕ) (before : List TableLine) (row : List (List ℕ)) (rest : List (List (List ℕ))) → IsFaultAt number before row rest table.Memory → ⊥
+no_row_fault : (number : ℕ) (before : List TableLine) (row : List (List ℕ)) (rest : List (List (List ℕ))) → IsTableRowFault number before row rest table.Memory → ⊥
 unfolding IsOther
 no_row_fault number before row [] wrong = let other = wrong.0 in absurd (cc (other))
 no_row_fault number before row (next ∷ rest) (inl misplaced) = let other = misplaced.0 in absurd (cc (other))
@@ -84,5 +84,5 @@ pub too_long_named : IsNamed TooLong
 too_long_named = record { layout = λ e. absurd (cc); certificate = λ e. absurd (cc); certificate_table = λ e. absurd (cc); table = λ e. absurd (cc) }
 
 -- the first test that a certificate fails
-pub refusal_named : (p : Problem) (es : List Entry) (ts : List Token) (r : CertRefusal) → IsRefusal p (pos 0) es ts r → r ≢ refusal.Memory
-refusal_named p es ts r refused e = let wrong = subst (IsRefusal p (pos 0) es ts) e refused in wrong.1
+pub refusal_named : (p : Problem) (es : List Entry) (ts : List Token) (r : CertRefusal) → IsCertificateRefusal p (pos 0) es ts r → r ≢ refusal.Memory
+refusal_named p es ts r refused e = let wrong = subst (IsCertificateRefusal p (pos 0) es ts) e refused in wrong.1

@@ -9,7 +9,7 @@ use Rattle.certificate_model.specs.declared.token.Token.{Token}
 use Rattle.certificate_model.specs.declared.refusal.CertRefusal.TheVariants.{Short}
 use Rattle.run_answer.specs.declared.status.Status.TheVariants.{Answered, Budget, Certificate, ListTooLong}
 use Rattle.task_certificate.specs.CertifyAnswer.{IsCertifyAnswer}
-use Rattle.task_certificate.specs.CheckAnswer.{IsTextFault, IsVerdict}
+use Rattle.task_certificate.specs.CheckAnswer.{IsTextFault, IsCheckVerdict}
 
 -- a limit of nodes that is too low is no answer of `check`, a refusal of a certificate none of `certify`
 unsound_certify : (s : Settings) (p : Problem) (text : List ℕ) → IsCertifyAnswer s p (Certificate Short) text → ⊥
@@ -17,7 +17,7 @@ unsound_certify s p text (inl is) = let wrong = is.0 in absurd (cc)
 unsound_certify s p text (inr (inl over)) = let wrong = over.1.0 in absurd (cc)
 unsound_certify s p text (inr (inr long)) = let wrong = long.1.0 in absurd (cc)
 
-budget_of_check : (s : Settings) (p : Problem) (es : List Entry) (ts : List Token) (text : List ℕ) → IsVerdict s p es ts Budget text → ⊥
+budget_of_check : (s : Settings) (p : Problem) (es : List Entry) (ts : List Token) (text : List ℕ) → IsCheckVerdict s p es ts Budget text → ⊥
 budget_of_check s p es ts text (inl sound) = let wrong = sound.1.0 in absurd (cc)
 budget_of_check s p es ts text (inr (refusal, refused, unsound)) = let wrong = unsound.status_is in absurd (cc)
 

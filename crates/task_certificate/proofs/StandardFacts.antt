@@ -4,7 +4,7 @@ use Rattle.std.specs.Fmt.{digits}
 use Rattle.charge_model.specs.Problem.{Problem}
 use Rattle.command_words.specs.declared.settings.Settings.{Settings}
 use Rattle.fault_lines.specs.declared.input_fault.InputFault.TheVariants.{TooLong}
-use Rattle.ground_state.specs.Answer.{IsOverBudget}
+use Rattle.ground_state.specs.Answer.{IsOverLimit}
 use Rattle.run_answer.specs.declared.status.Status.TheVariants.{Input, Budget}
 use Rattle.task_certificate.specs.CertifyAnswer.{IsCertifyAnswer}
 use Rattle.task_certificate.specs.CheckAnswer.{IsCheckAnswer}
@@ -15,7 +15,7 @@ abbrev pub line : List ℕ → List ℕ
 line text = text ++ 10 ∷ []
 
 -- one node too many
-fault_budget : (s : Settings) (p : Problem) → s.search.limit ≡ 9840 → IsOverBudget p s.search.limit → IsCertifyAnswer s p Budget (line (codes "fault budget 9840"))
+fault_budget : (s : Settings) (p : Problem) → s.search.limit ≡ 9840 → IsOverLimit p s.search.limit → IsCertifyAnswer s p Budget (line (codes "fault budget 9840"))
 unfolding digits
 fault_budget s p limit over = inr (inl (over, (refl, rw limit refl)))
 

@@ -9,7 +9,7 @@ use Rattle.fault_lines.specs.declared.input_fault.InputFault.TheVariants.{TooLon
 use Rattle.ground_report.specs.declared.about.About.{About}
 use Rattle.certificate_model.specs.declared.token.Token.{Token}
 use Rattle.certificate_model.specs.declared.refusal.CertRefusal.{CertRefusal}
-use Rattle.certificate_model.specs.Certificates.{IsSound, IsRefusal}
+use Rattle.certificate_model.specs.Certificates.{IsSound, IsCertificateRefusal}
 use Rattle.certificate_reading.specs.Texts.{IsCertText, IsCertFault}
 use Rattle.run_answer.specs.declared.status.Status.{Status}
 use Rattle.run_answer.specs.declared.status.Status.TheVariants.{Answered}
@@ -34,10 +34,10 @@ IsReportAnswer s p es status text =
 
 -- a sound certificate is answered by the report of its list, another by the first test that it
 -- fails
-abbrev pub IsVerdict : Settings → Problem → List Entry → List Token → Status → List ℕ → Type 0
-IsVerdict s p es ts status text =
+abbrev pub IsCheckVerdict : Settings → Problem → List Entry → List Token → Status → List ℕ → Type 0
+IsCheckVerdict s p es ts status text =
     (IsSound p (pos 0) es ts × IsReportAnswer s p es status text)
-    ⊎ ((refusal : CertRefusal) × IsRefusal p (pos 0) es ts refusal
+    ⊎ ((refusal : CertRefusal) × IsCertificateRefusal p (pos 0) es ts refusal
     × IsUnsoundAnswer refusal status text)
 
 -- the line of the fault of the bytes
@@ -54,7 +54,7 @@ pub record IsCertificateVerdict (s : Settings) (bytes : List ℕ) (status : Stat
   pub tokens : List Token
   pub short : length bytes ≤ MAX_CERTIFICATE_BYTES
   pub means : IsCertText problem entries tokens bytes
-  pub verdict : IsVerdict s problem entries tokens status text
+  pub verdict : IsCheckVerdict s problem entries tokens status text
 
 -- the one or the other
 abbrev pub IsCheckAnswer : Settings → List ℕ → Status → List ℕ → Type 0

@@ -3,10 +3,10 @@ ghost use Rattle.std.specs.Prelude.{◌≡◌, ◌⊎◌, ℕ, pos, List, IfOk, 
 ghost use Rattle.certificate_model.specs.declared.token.Token.{Token as TokenData};
 ghost use Rattle.certificate_model.specs.Certificates.{IsSound};
 ghost use Rattle.certificate_check.specs.Checking.{IsNoCertificate};
-ghost use Rattle.certificate_reading.specs.Texts.{IsFront, IsFrontOf};
+ghost use Rattle.certificate_reading.specs.Texts.{IsCertificateFront, IsFrontOf};
 ghost use Rattle.run_answer.specs.Due.{DueIs};
-ghost use Rattle.ground_report.specs.Subject.{AreOf};
-ghost use Rattle.task_certificate.specs.CheckAnswer.{IsCheckAnswer, IsReportAnswer, IsVerdict};
+ghost use Rattle.ground_report.specs.Subject.{AreListsOfProblem};
+ghost use Rattle.task_certificate.specs.CheckAnswer.{IsCheckAnswer, IsReportAnswer, IsCheckVerdict};
 
 use certificate_check::laws::fed_checkers_tell;
 use certificate_check::{CertRefusal, Checker};
@@ -41,9 +41,9 @@ fn verdict_due(
     text: &[u8],
     front: &CertFront,
 ) -> Result<Due, Memory>
-    requires { IsFront text.now front.now }
+    requires { IsCertificateFront text.now front.now }
     ensures { IfOk result (λ due. (tokens : List TokenData) → IsFrontOf tokens text.now front.now
-        → DueIs (IsVerdict settings.now front.now.problem front.now.list tokens) due) }
+        → DueIs (IsCheckVerdict settings.now front.now.problem front.now.list tokens) due) }
 {
     read_texts_fit();
     match checked(alloc, text, front) {
@@ -54,7 +54,7 @@ fn verdict_due(
 
 /// The report of the list of a sound certificate.
 fn report_due(alloc: Global, settings: &Settings, front: &CertFront) -> Result<Due, Memory>
-    requires { AreOf front.now.problem front.now.list }
+    requires { AreListsOfProblem front.now.problem front.now.list }
     ensures { IfOk result (DueIs (IsReportAnswer settings.now front.now.problem front.now.list)) }
 {
     let about = About {
@@ -70,7 +70,7 @@ fn report_due(alloc: Global, settings: &Settings, front: &CertFront) -> Result<D
 
 /// Whether the certificate is sound, or the first test that it fails.
 fn checked(alloc: Global, text: &[u8], front: &CertFront) -> Result<(), CertRefusal>
-    requires { IsFront text.now front.now }
+    requires { IsCertificateFront text.now front.now }
     ensures sound { OnOk result ((tokens : List TokenData) → IsFrontOf tokens text.now front.now
         → IsSound front.now.problem (pos 0) front.now.list tokens) }
     ensures refused { IfErr result (λ r. (tokens : List TokenData)

@@ -13,7 +13,7 @@ use Rattle.gate_model.specs.Logic.{Logic, logic_of}
 use Rattle.command_words.specs.declared.gate_settings.GateSettings.{GateSettings}
 use Rattle.command_words.specs.declared.settings.Settings.{Settings}
 use Rattle.command_words.specs.Gates.{HasGate}
-use Rattle.command_words.specs.Options.{IsRead}
+use Rattle.command_words.specs.Options.{IsReadWhereGiven}
 use Rattle.command_words.specs.Settings.{HasDomainNeeds, HasTruthNeeds}
 use Rattle.run_answer.specs.declared.status.Status.{Status}
 use Rattle.run_answer.specs.declared.status.Status.TheVariants.{Answered}
@@ -76,11 +76,11 @@ axis_of q part axis is =
       inside = is.inside;
     }
 
-pub axes_of : (told : Option Text) (axes : Axes) → IsRead IsGridText told (Some axes) → AreAxes axes
+pub axes_of : (told : Option Text) (axes : Axes) → IsReadWhereGiven IsGridText told (Some axes) → AreAxes axes
 axes_of None axes read = absurd read
 axes_of (Some text) axes read = record { eps = axis_of permittivity read.eps_part axes.eps read.eps; lam = axis_of screening_length read.lam_part axes.lam read.lam }
 
-some_axes : (told : Option Text) (grid : Option Axes) → IsRead IsGridText told grid → grid ≢ None → (axes : Axes) × (grid ≡ Some axes) × AreAxes axes
+some_axes : (told : Option Text) (grid : Option Axes) → IsReadWhereGiven IsGridText told grid → grid ≢ None → (axes : Axes) × (grid ≡ Some axes) × AreAxes axes
 some_axes None None read there = absurd (there refl)
 some_axes None (Some a) read there = absurd read
 some_axes (Some text) None read there = absurd read
@@ -93,7 +93,7 @@ module _ (parts : PartsAreThere) (s : Settings) (layout : Arrangement) (valid : 
       let found = some_truth parts s gate layout valid needs.gate.is_gate in
       (found.0, found.1, record { gate = gate; given = given_by s.gate needs.gate; answers = found.2 })
 
-  pub some_domain_answer : (told : Option Text) → HasDomainNeeds s → IsRead IsGridText told s.gate.grid → (status : Status) × (text : List ℕ) × IsDomainAnswer s layout status text
+  pub some_domain_answer : (told : Option Text) → HasDomainNeeds s → IsReadWhereGiven IsGridText told s.gate.grid → (status : Status) × (text : List ℕ) × IsDomainAnswer s layout status text
   some_domain_answer told needs read =
       let has = needs.truth.gate in
       let gate = logic_of s.gate.inputs s.gate.outputs has.computed in

@@ -6,7 +6,7 @@ use Rattle.sidb_layout.specs.declared.site.Site.{Site}
 use Rattle.gate_model.specs.declared.pairs.PairOf.{PairOf}
 use Rattle.gate_model.specs.Logic.{Logic, places_in}
 use Rattle.bdl_pairs.specs.Remaining.{IsOn, IsPairOn}
-use Rattle.task_gate.specs.GateSite.{ArePlaces, IsFirstFrom, IsGateSite}
+use Rattle.task_gate.specs.GateSite.{ArePlacesBelow, IsFirstFrom, IsGateSite}
 
 -- what is first behind place k is first of all
 abbrev pub GoesBack : ℕ → List PairOf → ℕ → Type 0
@@ -26,8 +26,8 @@ pub first_b : (n : ℕ) (pairs : List PairOf) (k : ℕ) (d : PairOf) → k < len
 first_b n pairs k d lt a b back = back (get_or pairs k d).b (subst (λ l. IsFirstFrom n l (get_or pairs k d).b) (sym (rest_at pairs k d lt)) (inr (a, inl (b, refl))))
 
 -- one more pair of places
-pub more_places : (n : ℕ) (pairs : List PairOf) (k : ℕ) (d : PairOf) → k < length pairs → All (ArePlaces n) (take k pairs) → (get_or pairs k d).a < n → (get_or pairs k d).b < n → All (ArePlaces n) (take (k + 1) pairs)
-more_places n pairs k d lt all a b = All-more (ArePlaces n) pairs k d lt all (record { a = a; b = b })
+pub more_places : (n : ℕ) (pairs : List PairOf) (k : ℕ) (d : PairOf) → k < length pairs → All (ArePlacesBelow n) (take k pairs) → (get_or pairs k d).a < n → (get_or pairs k d).b < n → All (ArePlacesBelow n) (take (k + 1) pairs)
+more_places n pairs k d lt all a b = All-more (ArePlacesBelow n) pairs k d lt all (record { a = a; b = b })
 
 -- first of the inputs, or of the outputs where all inputs are places
 pub in_front : (n : ℕ) (xs ys : List ℕ) (place : ℕ) → IsFirstFrom n xs place → IsFirstFrom n (xs ++ ys) place
@@ -35,21 +35,21 @@ in_front n [] ys place first = absurd first
 in_front n (x ∷ xs) ys place (inl here) = inl here
 in_front n (x ∷ xs) ys place (inr later) = inr (later.0, in_front n xs ys place later.1)
 
-pub behind : (n : ℕ) (pairs : List PairOf) (ys : List ℕ) (place : ℕ) → All (ArePlaces n) pairs → IsFirstFrom n ys place → IsFirstFrom n (places_in pairs ++ ys) place
+pub behind : (n : ℕ) (pairs : List PairOf) (ys : List ℕ) (place : ℕ) → All (ArePlacesBelow n) pairs → IsFirstFrom n ys place → IsFirstFrom n (places_in pairs ++ ys) place
 behind n [] ys place all first = first
 behind n (x ∷ pairs) ys place all first =
     let here = all 0 x (omega arith) in inr (here.a, inr (here.b, behind n pairs ys place (λ k d lt. all (suc k) d (omega arith)) first))
 
-pub on_sites : (sites : List Site) (n : ℕ) → n ≡ length sites → (pairs : List PairOf) → All (ArePlaces n) pairs → All (IsPairOn sites) pairs
-on_sites sites n same pairs all = All-weaker (ArePlaces n) (IsPairOn sites) (λ pair is. record { a = subst (λ m. pair.a < m) same is.a; b = subst (λ m. pair.b < m) same is.b }) pairs all
+pub on_sites : (sites : List Site) (n : ℕ) → n ≡ length sites → (pairs : List PairOf) → All (ArePlacesBelow n) pairs → All (IsPairOn sites) pairs
+on_sites sites n same pairs all = All-weaker (ArePlacesBelow n) (IsPairOn sites) (λ pair is. record { a = subst (λ m. pair.a < m) same is.a; b = subst (λ m. pair.b < m) same is.b }) pairs all
 
 pub site_of_inputs : (gate : Logic) (sites : List Site) (n place : ℕ) → n ≡ length sites → IsFirstFrom n (places_in gate.inputs) place → IsGateSite gate sites place
 site_of_inputs gate sites n place same first = subst (λ m. IsFirstFrom m (places_in gate.inputs ++ places_in gate.outputs) place) same (in_front n (places_in gate.inputs) (places_in gate.outputs) place first)
 
-pub all_on : (gate : Logic) (sites : List Site) (n : ℕ) (r : Option ℕ) → n ≡ length sites → All (ArePlaces n) gate.inputs → MatchOption r (All (ArePlaces n) gate.outputs) (IsFirstFrom n (places_in gate.outputs)) → IfNone r (IsOn gate sites)
+pub all_on : (gate : Logic) (sites : List Site) (n : ℕ) (r : Option ℕ) → n ≡ length sites → All (ArePlacesBelow n) gate.inputs → MatchOption r (All (ArePlacesBelow n) gate.outputs) (IsFirstFrom n (places_in gate.outputs)) → IfNone r (IsOn gate sites)
 all_on gate sites n None same inputs outputs = record { inputs = on_sites sites n same gate.inputs inputs; outputs = on_sites sites n same gate.outputs outputs }
 all_on gate sites n (Some place) same inputs outputs = tt
 
-pub site_of_outputs : (gate : Logic) (sites : List Site) (n : ℕ) (r : Option ℕ) → n ≡ length sites → All (ArePlaces n) gate.inputs → MatchOption r (All (ArePlaces n) gate.outputs) (IsFirstFrom n (places_in gate.outputs)) → IfSome r (IsGateSite gate sites)
+pub site_of_outputs : (gate : Logic) (sites : List Site) (n : ℕ) (r : Option ℕ) → n ≡ length sites → All (ArePlacesBelow n) gate.inputs → MatchOption r (All (ArePlacesBelow n) gate.outputs) (IsFirstFrom n (places_in gate.outputs)) → IfSome r (IsGateSite gate sites)
 site_of_outputs gate sites n None same inputs outputs = tt
 site_of_outputs gate sites n (Some place) same inputs outputs = subst (λ m. IsFirstFrom m (places_in gate.inputs ++ places_in gate.outputs) place) same (behind n gate.inputs (places_in gate.outputs) place inputs outputs)

@@ -21,7 +21,7 @@ use Rattle.operational_domain.specs.Truth.{AreAnswers, IsFirstLong, IsFirstOver}
 use Rattle.operational_domain.specs.Domain.{AreCells}
 use Rattle.run_answer.specs.declared.status.Status.{Status}
 use Rattle.run_answer.specs.declared.status.Status.TheVariants.{Answered, Budget, Input, ListTooLong}
-use Rattle.task_gate.specs.GateSite.{ArePlaces, IsFirstFrom, IsGateSite, IsSiteAnswer}
+use Rattle.task_gate.specs.GateSite.{ArePlacesBelow, IsFirstFrom, IsGateSite, IsSiteAnswer}
 use Rattle.task_gate.specs.TruthAnswer.{IsTruthOfGate, asked_by, placed_by, truth_report}
 use Rattle.task_gate.specs.DomainAnswer.{IsDomainOfGate, domain_report}
 use Rattle.task_gate.proofs.Places.{behind, in_front, on_sites}
@@ -34,22 +34,22 @@ pub record PartsAreThere : Type 0 where
       → (cells : List Cell) × AreCells placed p a cells
 
 -- all places of pairs are sites, or there is a first that is none
-sites_or_first : (n : ℕ) (pairs : List PairOf) → All (ArePlaces n) pairs ⊎ ((place : ℕ) × IsFirstFrom n (places_in pairs) place)
-sites_or_first n [] = inl (All-nil (ArePlaces n))
+sites_or_first : (n : ℕ) (pairs : List PairOf) → All (ArePlacesBelow n) pairs ⊎ ((place : ℕ) × IsFirstFrom n (places_in pairs) place)
+sites_or_first n [] = inl (All-nil (ArePlacesBelow n))
 sites_or_first n (pair ∷ pairs) = by (cases_lt pair.a n) (cases_lt pair.b n) (sites_or_first n pairs)
   where
-    by : (pair.a < n) ⊎ (n ≤ pair.a) → (pair.b < n) ⊎ (n ≤ pair.b) → All (ArePlaces n) pairs ⊎ ((place : ℕ) × IsFirstFrom n (places_in pairs) place)
-        → All (ArePlaces n) (pair ∷ pairs) ⊎ ((place : ℕ) × IsFirstFrom n (places_in (pair ∷ pairs)) place)
+    by : (pair.a < n) ⊎ (n ≤ pair.a) → (pair.b < n) ⊎ (n ≤ pair.b) → All (ArePlacesBelow n) pairs ⊎ ((place : ℕ) × IsFirstFrom n (places_in pairs) place)
+        → All (ArePlacesBelow n) (pair ∷ pairs) ⊎ ((place : ℕ) × IsFirstFrom n (places_in (pair ∷ pairs)) place)
     by (inr outside) b later = inr (pair.a, inl (outside, refl))
     by (inl a) (inr outside) later = inr (pair.b, inr (a, inl (outside, refl)))
-    by (inl a) (inl b) (inl all) = inl (All-cons (ArePlaces n) pair pairs (record { a = a; b = b }) all)
+    by (inl a) (inl b) (inl all) = inl (All-cons (ArePlacesBelow n) pair pairs (record { a = a; b = b }) all)
     by (inl a) (inl b) (inr first) = inr (first.0, inr (a, inr (b, first.1)))
 
 pub on_or_site : (gate : Logic) (sites : List Site) → IsOn gate sites ⊎ ((place : ℕ) × IsGateSite gate sites place)
 on_or_site gate sites = by (sites_or_first (length sites) gate.inputs) (sites_or_first (length sites) gate.outputs)
   where
-    by : All (ArePlaces (length sites)) gate.inputs ⊎ ((place : ℕ) × IsFirstFrom (length sites) (places_in gate.inputs) place)
-        → All (ArePlaces (length sites)) gate.outputs ⊎ ((place : ℕ) × IsFirstFrom (length sites) (places_in gate.outputs) place)
+    by : All (ArePlacesBelow (length sites)) gate.inputs ⊎ ((place : ℕ) × IsFirstFrom (length sites) (places_in gate.inputs) place)
+        → All (ArePlacesBelow (length sites)) gate.outputs ⊎ ((place : ℕ) × IsFirstFrom (length sites) (places_in gate.outputs) place)
         → IsOn gate sites ⊎ ((place : ℕ) × IsGateSite gate sites place)
     by (inr first) outputs = inr (first.0, in_front (length sites) (places_in gate.inputs) (places_in gate.outputs) first.0 first.1)
     by (inl inputs) (inr first) = inr (first.0, behind (length sites) gate.inputs (places_in gate.outputs) first.0 inputs first.1)

@@ -9,7 +9,7 @@ use Rattle.run_answer.specs.declared.status.Status.{Status}
 use Rattle.run_answer.specs.Status.{IsFaultAnswer}
 
 -- both places of a pair are below the number
-pub record ArePlaces (n : ℕ) (pair : PairOf) : Type 0 where
+pub record ArePlacesBelow (n : ℕ) (pair : PairOf) : Type 0 where
   pub a : pair.a < n
   pub b : pair.b < n
 

@@ -10,7 +10,7 @@ ghost use Rattle.bdl_pairs.specs.Remaining.{IsOn};
 ghost use Rattle.command_words.specs.declared.gate_settings.GateSettings.{GateSettings as GateData};
 ghost use Rattle.command_words.specs.declared.settings.Settings.{Settings as SettingsData};
 ghost use Rattle.command_words.specs.Gates.{HasGate};
-ghost use Rattle.command_words.specs.Options.{IsRead};
+ghost use Rattle.command_words.specs.Options.{IsReadWhereGiven};
 ghost use Rattle.command_words.specs.Settings.{HasDomainNeeds, HasTruthNeeds};
 ghost use Rattle.run_answer.specs.declared.status.Status.{Status as StatusData};
 ghost use Rattle.run_answer.specs.declared.status.Status.TheVariants.{Answered};
@@ -31,7 +31,7 @@ pub fn one_given_gate()
 
 /// The grid that a text means keeps what each grid keeps.
 pub fn given_grids_are_grids()
-    ensures { (points : Option Text) (axes : Axes) → IsRead IsGridText points (Some axes)
+    ensures { (points : Option Text) (axes : Axes) → IsReadWhereGiven IsGridText points (Some axes)
         → AreAxes axes }
 {}
 
@@ -78,7 +78,7 @@ pub fn one_domain_answer()
 /// text are the domain answer.
 pub fn some_domain_answer()
     ensures { (s : SettingsData) (points : Option Text) (layout : Arrangement) → IsLayout layout
-        → HasDomainNeeds s → IsRead IsGridText points s.gate.grid
+        → HasDomainNeeds s → IsReadWhereGiven IsGridText points s.gate.grid
         → (status : StatusData) × (text : List ℕ) × IsDomainAnswer s layout status text }
 {
     each_gate_has_a_table();

@@ -2,14 +2,14 @@
 ghost use Rattle.std.specs.Prelude.{◌<◌, ◌++◌, All, IfNone, IfSome, MatchOption};
 ghost use Rattle.gate_model.specs.Logic.{places_in};
 ghost use Rattle.bdl_pairs.specs.Remaining.{IsOn};
-ghost use Rattle.task_gate.specs.GateSite.{ArePlaces, IsFirstFrom, IsGateSite};
+ghost use Rattle.task_gate.specs.GateSite.{ArePlacesBelow, IsFirstFrom, IsGateSite};
 
 use bdl_pairs::{LogicSpec, PairOf};
 use sidb_layout::Layout;
 
 /// The first place of these pairs that is not below the number.
 fn outside_in(pairs: &[PairOf], sites: usize) -> Option<usize>
-    ensures { MatchOption result (All (ArePlaces sites) pairs.now)
+    ensures { MatchOption result (All (ArePlacesBelow sites) pairs.now)
         (IsFirstFrom sites (places_in pairs.now)) }
 {
     for k in 0..pairs.len() {

@@ -10,9 +10,9 @@ use Rattle.sidb_layout.specs.declared.fault.LayoutFault.{LayoutFault}
 use Rattle.sidb_layout.specs.declared.fault.LayoutFault.TheVariants.{OutOfRange, TooMany, TooManyFixes, Duplicate, TooClose, Memory}
 use Rattle.sidb_layout.specs.Lattice.{silicon}
 use Rattle.sidb_layout.specs.Layout.{Arrangement}
-use Rattle.sidb_layout.specs.Refusal.{IsFirstOutside, IsFirstPair, IsRefusal}
+use Rattle.sidb_layout.specs.Refusal.{IsFirstOutside, IsFirstPair, IsLayoutRefusal}
 use Rattle.sidb_layout.specs.Site.{IsInRange, origin}
-use Rattle.task_gen.specs.Generator.{column_after, drawn, generated, site_by, sites_of, state_after}
+use Rattle.task_gen.specs.Generator.{column_after, drawn, generated, site_by, sites_for_number, state_after}
 
 -- so many sites
 pub count_of : (count state column : ℕ) → length (generated count state column) ≡ count
@@ -60,24 +60,24 @@ none_outside P xs i all first = by (slice_get xs i) refl first.outside
     by (Some x) e out = out (subst P (get_or_from_slice_get xs i x x e) (all i x (slice_get_within xs i x e)))
 
 -- so they are not refused
-pub not_refused : (number count : ℕ) (fault : LayoutFault) → count ≤ MAX_SITES → ((i j : ℕ) → fault ≢ TooClose i j) → IsRefusal silicon (sites_of number count) [] fault → ⊥
-not_refused number count (OutOfRange i) few apart (inl first) = none_outside IsInRange (sites_of number count) i (in_range count number 0 (omega arith)) first
+pub not_refused : (number count : ℕ) (fault : LayoutFault) → count ≤ MAX_SITES → ((i j : ℕ) → fault ≢ TooClose i j) → IsLayoutRefusal silicon (sites_for_number number count) [] fault → ⊥
+not_refused number count (OutOfRange i) few apart (inl first) = none_outside IsInRange (sites_for_number number count) i (in_range count number 0 (omega arith)) first
 not_refused number count (OutOfRange i) few apart (inr (a, at, all, first)) = absurd first.outside
 not_refused number count TooMany few apart refused = omega (arith, refused.1, count_of count number 0)
 not_refused number count TooManyFixes few apart refused = absurd (omega (arith, refused.2))
 not_refused number count (Duplicate i j) few apart refused =
-    let pair = subst (λ l. IsFirstPair (λ a b. a ≡ b) l i j) (append-nil (sites_of number count)) refused.1 in
-    let rise : column_at origin (sites_of number count) i < column_at origin (sites_of number count) j = rising origin count number 0 i j pair.earliest.before (omega (arith, pair.within, count_of count number 0)) in
-    let same : column_at origin (sites_of number count) i ≡ column_at origin (sites_of number count) j = ap (λ (s : Site). unsigned_abs s.n) pair.earliest.related in
+    let pair = subst (λ l. IsFirstPair (λ a b. a ≡ b) l i j) (append-nil (sites_for_number number count)) refused.1 in
+    let rise : column_at origin (sites_for_number number count) i < column_at origin (sites_for_number number count) j = rising origin count number 0 i j pair.earliest.before (omega (arith, pair.within, count_of count number 0)) in
+    let same : column_at origin (sites_for_number number count) i ≡ column_at origin (sites_for_number number count) j = ap (λ (s : Site). unsigned_abs s.n) pair.earliest.related in
     omega (arith, rise, same)
 not_refused number count (TooClose i j) few apart refused = apart i j refl
 not_refused number count Memory few apart refused = refused
 
 -- the fault is want of memory
-pub is_memory : (number count : ℕ) (sites : List Site) (r : Result Arrangement LayoutFault) (fault : LayoutFault) → count ≤ MAX_SITES → sites ≡ sites_of number count → r ≡ Err fault → ((f : LayoutFault) → f ≢ Memory → ((r ≡ Err f) ↔ IsRefusal silicon sites [] f)) → ((i j : ℕ) → r ≢ Err (TooClose i j)) → fault ≡ Memory
+pub is_memory : (number count : ℕ) (sites : List Site) (r : Result Arrangement LayoutFault) (fault : LayoutFault) → count ≤ MAX_SITES → sites ≡ sites_for_number number count → r ≡ Err fault → ((f : LayoutFault) → f ≢ Memory → ((r ≡ Err f) ↔ IsLayoutRefusal silicon sites [] f)) → ((i j : ℕ) → r ≢ Err (TooClose i j)) → fault ≡ Memory
 is_memory number count sites r Memory few same is refused apart = refl
-is_memory number count sites r (OutOfRange i) few same is refused apart = absurd (not_refused number count (OutOfRange i) few (λ i j e. absurd (cc)) (subst (λ l. IsRefusal silicon l [] (OutOfRange i)) same ((refused (OutOfRange i) (λ e. absurd (cc))).0 is)))
-is_memory number count sites r TooMany few same is refused apart = absurd (not_refused number count TooMany few (λ i j e. absurd (cc)) (subst (λ l. IsRefusal silicon l [] TooMany) same ((refused TooMany (λ e. absurd (cc))).0 is)))
-is_memory number count sites r TooManyFixes few same is refused apart = absurd (not_refused number count TooManyFixes few (λ i j e. absurd (cc)) (subst (λ l. IsRefusal silicon l [] TooManyFixes) same ((refused TooManyFixes (λ e. absurd (cc))).0 is)))
-is_memory number count sites r (Duplicate i j) few same is refused apart = absurd (not_refused number count (Duplicate i j) few (λ i j e. absurd (cc)) (subst (λ l. IsRefusal silicon l [] (Duplicate i j)) same ((refused (Duplicate i j) (λ e. absurd (cc))).0 is)))
+is_memory number count sites r (OutOfRange i) few same is refused apart = absurd (not_refused number count (OutOfRange i) few (λ i j e. absurd (cc)) (subst (λ l. IsLayoutRefusal silicon l [] (OutOfRange i)) same ((refused (OutOfRange i) (λ e. absurd (cc))).0 is)))
+is_memory number count sites r TooMany few same is refused apart = absurd (not_refused number count TooMany few (λ i j e. absurd (cc)) (subst (λ l. IsLayoutRefusal silicon l [] TooMany) same ((refused TooMany (λ e. absurd (cc))).0 is)))
+is_memory number count sites r TooManyFixes few same is refused apart = absurd (not_refused number count TooManyFixes few (λ i j e. absurd (cc)) (subst (λ l. IsLayoutRefusal silicon l [] TooManyFixes) same ((refused TooManyFixes (λ e. absurd (cc))).0 is)))
+is_memory number count sites r (Duplicate i j) few same is refused apart = absurd (not_refused number count (Duplicate i j) few (λ i j e. absurd (cc)) (subst (λ l. IsLayoutRefusal silicon l [] (Duplicate i j)) same ((refused (Duplicate i j) (λ e. absurd (cc))).0 is)))
 is_memory number count sites r (TooClose i j) few same is refused apart = absurd (apart i j is)

@@ -5,7 +5,7 @@ use Rattle.charge_model.specs.GroundList.{Entry}
 use Rattle.charge_model.specs.Tree.{IsLeastCertain, node_count}
 use Rattle.sidb_units.specs.declared.TheConstants.{MAX_ENTRIES}
 use Rattle.ground_entries.specs.declared.ground_list.Solved.{Solved}
-use Rattle.ground_state.specs.Answer.{IsListedWithin, IsOverBudget, IsSolution, IsTooLongWithin, IsWithinBudget}
+use Rattle.ground_state.specs.Answer.{IsListedWithin, IsOverLimit, IsSolution, IsTooLongWithin, IsWithinLimit}
 use Rattle.gate_report.specs.GenText.{gen_text}
 use Rattle.run_answer.specs.declared.status.Status.{Status}
 use Rattle.command_words.specs.declared.settings.Settings.{Settings}
@@ -16,7 +16,7 @@ pub record PartsAreOne : Type 0 where
   pub problem : (s : Settings) (p q : Problem) → IsGenProblem s p → IsGenProblem s q → p ≡ q
   pub list : (p : Problem) (limit : ℕ) (es fs : List Entry) → IsListedWithin p limit es → IsListedWithin p limit fs → es ≡ fs
   pub not_long : (p : Problem) (limit : ℕ) (es : List Entry) → IsListedWithin p limit es → IsTooLongWithin p limit → ⊥
-  pub budget : (p : Problem) (limit : ℕ) → IsWithinBudget p limit → IsOverBudget p limit → ⊥
+  pub budget : (p : Problem) (limit : ℕ) → IsWithinLimit p limit → IsOverLimit p limit → ⊥
   pub listed : (p : Problem) (limit : ℕ) (s : Solved) → IsSolution p limit s → length s.list ≤ MAX_ENTRIES → IsListedWithin p limit s.list
   pub bound : (p : Problem) (a b : Option ℤ) → IsLeastCertain p a → IsLeastCertain p b → a ≡ b
 
@@ -42,10 +42,10 @@ module _ (one : PartsAreOne) (settings : Settings) where
       a.prints ∙ same_text settings.generated.number settings.generated.sites a.solved b.solved nodes list ∙ sym b.prints
 
   -- the search of a problem ends within the limit, or it does not
-  not_over_and_long : (p q : Problem) → IsGenProblem settings p → IsGenProblem settings q → IsWithinBudget p settings.search.limit → IsOverBudget q settings.search.limit → ⊥
+  not_over_and_long : (p q : Problem) → IsGenProblem settings p → IsGenProblem settings q → IsWithinLimit p settings.search.limit → IsOverLimit q settings.search.limit → ⊥
   not_over_and_long p q is of within over =
       let problem = one.problem settings q p of is in
-      one.budget p settings.search.limit within (subst (λ x. IsOverBudget x settings.search.limit) problem over)
+      one.budget p settings.search.limit within (subst (λ x. IsOverLimit x settings.search.limit) problem over)
 
   same_unlisted : (s r : Status) (t u : List ℕ) → IsGenUnlisted settings s t → IsGenUnlisted settings r u → (s ≡ r) × (t ≡ u)
   same_unlisted s r t u (inl a) (inl b) = (a.1.0 ∙ sym b.1.0, a.1.1 ∙ sym b.1.1)

@@ -6,7 +6,7 @@ use Rattle.sidb_layout.specs.declared.site.Site.{Site}
 use Rattle.run_answer.specs.declared.status.Status.TheVariants.{Answered, Budget, Memory}
 use Rattle.command_words.specs.declared.settings.Settings.{Settings}
 use Rattle.command_words.specs.Limits.{AreGeneratedNumbers}
-use Rattle.task_gen.specs.Generator.{next_state, sites_of}
+use Rattle.task_gen.specs.Generator.{next_state, sites_for_number}
 use Rattle.task_gen.specs.GenAnswer.{IsGenAnswer, IsGenOver}
 use Rattle.task_gen.proofs.StandardFacts.{place}
 
@@ -19,7 +19,7 @@ too_great : AreGeneratedNumbers 9223372036854775808 1 → ⊥
 too_great within = let most = within.number_within.to in omega (arith, ints, most)
 
 -- another column
-other_column : sites_of 1 1 ≡ (place 11 0 0 ∷ []) → ⊥
+other_column : sites_for_number 1 1 ≡ (place 11 0 0 ∷ []) → ⊥
 unfolding next_state
 other_column wrong =
     let columns : pos 10 ≡ pos 11 = ap (λ (l : List Site). (slice_index_or l 0 (place 0 0 0)).n) wrong in

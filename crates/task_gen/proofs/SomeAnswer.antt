@@ -15,17 +15,17 @@ use Rattle.model_params.specs.declared.params.Params.{Params}
 use Rattle.screened_coulomb.specs.Layouts.{HoldsDistances, IsProblemOf}
 use Rattle.fault_lines.specs.FaultLines.{budget_line, list_too_long_line}
 use Rattle.ground_entries.specs.declared.ground_list.Solved.{Solved}
-use Rattle.ground_state.specs.Answer.{IsOverBudget, IsSolution, IsWithinBudget}
+use Rattle.ground_state.specs.Answer.{IsOverLimit, IsSolution, IsWithinLimit}
 use Rattle.gate_report.specs.GenText.{gen_text}
 use Rattle.run_answer.specs.declared.status.Status.{Status}
 use Rattle.run_answer.specs.declared.status.Status.TheVariants.{Answered, Budget, ListTooLong}
 use Rattle.command_words.specs.declared.settings.Settings.{Settings}
-use Rattle.task_gen.specs.Generator.{sites_of}
+use Rattle.task_gen.specs.Generator.{sites_for_number}
 use Rattle.task_gen.specs.GenAnswer.{IsGenAnswer, IsGenProblem}
 
 -- what layouts have
 pub record AreLayoutLaws : Type 0 where
-  pub layout : (number count : ℕ) → count ≤ MAX_SITES → (p : Arrangement) × IsMadeOf silicon (sites_of number count) [] p
+  pub layout : (number count : ℕ) → count ≤ MAX_SITES → (p : Arrangement) × IsMadeOf silicon (sites_for_number number count) [] p
   pub problem : (layout : Arrangement) (p : Params) → IsLayout layout → (q : Problem) × IsProblemOf layout p q × HoldsDistances layout p q × IsProblem q
 
 pub some_problem : AreLayoutLaws → (s : Settings) → (p : Problem) × IsGenProblem s p × IsProblem p
@@ -34,7 +34,7 @@ some_problem laws s = with (laws.layout s.generated.number s.generated.sites few
     few : s.generated.sites ≤ MAX_SITES
     few = let most : pos s.generated.sites ≤ℤ pos 64 = s.generated.in_range.sites_within.to in omega (arith, ints, most)
 
-    with : ((layout : Arrangement) × IsMadeOf silicon (sites_of s.generated.number s.generated.sites) [] layout) → (p : Problem) × IsGenProblem s p × IsProblem p
+    with : ((layout : Arrangement) × IsMadeOf silicon (sites_for_number s.generated.number s.generated.sites) [] layout) → (p : Problem) × IsGenProblem s p × IsProblem p
     with (layout, made) = by (laws.problem layout s.params made.layout)
       where
         by : ((q : Problem) × IsProblemOf layout s.params q × HoldsDistances layout s.params q × IsProblem q) → (p : Problem) × IsGenProblem s p × IsProblem p
@@ -42,7 +42,7 @@ some_problem laws s = with (laws.layout s.generated.number s.generated.sites few
 
 -- what each problem has
 pub record AreProblemLaws : Type 0 where
-  pub decided : (p : Problem) (limit : ℕ) → IsProblem p → IsWithinBudget p limit ⊎ IsOverBudget p limit
+  pub decided : (p : Problem) (limit : ℕ) → IsProblem p → IsWithinLimit p limit ⊎ IsOverLimit p limit
   pub list : (p : Problem) → IsProblem p → (es : List Entry) × IsMarkedGroundList p es
 
 -- some status and text are the answer
@@ -66,7 +66,7 @@ module _ (laws : AreProblemLaws) (s : Settings) (p : Problem) (of : IsGenProblem
               let solution : IsSolution p s.search.limit solved = record { list = marked; bound = least; nodes = refl; within = budget } in
               (Answered, gen_text s.generated.number s.generated.sites solved, inl (refl, record { problem = p; generated = of; solved = solved; solution = solution; few = few; prints = refl }))
 
-  pub answer_by : IsWithinBudget p s.search.limit ⊎ IsOverBudget p s.search.limit → HasAnswer s
+  pub answer_by : IsWithinLimit p s.search.limit ⊎ IsOverLimit p s.search.limit → HasAnswer s
   answer_by (inl (bound, least, budget)) = within_budget bound least budget
   answer_by (inr over) = (Budget, budget_line s.search.limit, inr (inl (record { problem = p; generated = of; over = over }, (refl, refl))))
 

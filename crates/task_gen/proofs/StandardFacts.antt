@@ -7,10 +7,10 @@ use Rattle.charge_model.specs.Problem.{Problem}
 use Rattle.charge_model.specs.GroundList.{Entry}
 use Rattle.sidb_layout.specs.declared.site.Site.{Site}
 use Rattle.ground_entries.specs.declared.ground_list.Solved.{Solved}
-use Rattle.ground_state.specs.Answer.{IsOverBudget, IsSolution}
+use Rattle.ground_state.specs.Answer.{IsOverLimit, IsSolution}
 use Rattle.run_answer.specs.declared.status.Status.TheVariants.{Answered, Budget}
 use Rattle.command_words.specs.declared.settings.Settings.{Settings}
-use Rattle.task_gen.specs.Generator.{drawn, next_state, sites_of}
+use Rattle.task_gen.specs.Generator.{drawn, next_state, sites_for_number}
 use Rattle.task_gen.specs.GenAnswer.{IsGenAnswer, IsGenProblem}
 
 -- a line and what follows it
@@ -27,18 +27,18 @@ abbrev pub place : ℕ → ℕ → ℕ → Site
 place n m l = record { n = pos n; m = pos m; l = pos l }
 
 -- the first sites of the numbers 0 and 1
-of_zero : sites_of 0 3 ≡ (place 11 0 1 ∷ place 19 2 1 ∷ place 23 2 0 ∷ [])
+of_zero : sites_for_number 0 3 ≡ (place 11 0 1 ∷ place 19 2 1 ∷ place 23 2 0 ∷ [])
 unfolding next_state
 of_zero = refl
 
-of_one : sites_of 1 3 ≡ (place 10 0 0 ∷ place 20 0 1 ∷ place 26 1 1 ∷ [])
+of_one : sites_for_number 1 3 ≡ (place 10 0 0 ∷ place 20 0 1 ∷ place 26 1 1 ∷ [])
 unfolding next_state
 of_one = refl
 
-no_sites : sites_of 7 0 ≡ []
+no_sites : sites_for_number 7 0 ≡ []
 no_sites = refl
 
-fault_budget : (s : Settings) (p : Problem) → s.search.limit ≡ 9840 → IsGenProblem s p → IsOverBudget p s.search.limit
+fault_budget : (s : Settings) (p : Problem) → s.search.limit ≡ 9840 → IsGenProblem s p → IsOverLimit p s.search.limit
     → IsGenAnswer s Budget (line (codes "fault budget 9840") [])
 unfolding digits
 fault_budget s p limit of over = inr (inl (record { problem = p; generated = of; over = over }, (refl, rw limit refl)))

@@ -7,19 +7,19 @@ use Rattle.sidb_layout.specs.Lattice.{silicon}
 use Rattle.sidb_layout.specs.Refusal.{IsMadeOf}
 use Rattle.screened_coulomb.specs.Layouts.{HoldsDistances, IsProblemOf}
 use Rattle.ground_entries.specs.declared.ground_list.Solved.{Solved}
-use Rattle.ground_state.specs.Answer.{IsOverBudget, IsSolution, IsTooLongWithin}
+use Rattle.ground_state.specs.Answer.{IsOverLimit, IsSolution, IsTooLongWithin}
 use Rattle.gate_report.specs.GenText.{gen_text}
 use Rattle.run_answer.specs.declared.status.Status.{Status}
 use Rattle.run_answer.specs.declared.status.Status.TheVariants.{Answered}
 use Rattle.run_answer.specs.Status.{IsBudgetAnswer, IsLongListAnswer}
 use Rattle.command_words.specs.declared.settings.Settings.{Settings}
-use Rattle.task_gen.specs.Generator.{sites_of}
+use Rattle.task_gen.specs.Generator.{sites_for_number}
 
 -- the problem of the layout that the number generates, on the default lattice and without fixed
 -- charges, by the parameters: the span of each class holds the distance of its pairs
 pub record IsGenProblem (s : Settings) (p : Problem) : Type 0 where
   pub layout : Arrangement
-  pub made : IsMadeOf silicon (sites_of s.generated.number s.generated.sites) [] layout
+  pub made : IsMadeOf silicon (sites_for_number s.generated.number s.generated.sites) [] layout
   pub of_layout : IsProblemOf layout s.params p
   pub holds : HoldsDistances layout s.params p
 
@@ -36,7 +36,7 @@ pub record IsGenReport (s : Settings) (text : List ℕ) : Type 0 where
 pub record IsGenOver (s : Settings) : Type 0 where
   pub problem : Problem
   pub generated : IsGenProblem s problem
-  pub over : IsOverBudget problem s.search.limit
+  pub over : IsOverLimit problem s.search.limit
 
 -- it has not, and the ground list has too many entries
 pub record IsGenLong (s : Settings) : Type 0 where

@@ -33,5 +33,5 @@ generated (suc count) s column =
     site_by s column ∷ generated count (state_after s) (column_after s column)
 
 -- the sites that a number generates
-abbrev pub sites_of : ℕ → ℕ → List Site
-sites_of number count = generated count number 0
+abbrev pub sites_for_number : ℕ → ℕ → List Site
+sites_for_number number count = generated count number 0

@@ -1,6 +1,6 @@
 ghost use Rattle.std.specs.Prelude.{◌≡◌, ◌≤◌, ◌+◌, ◌^◌, ◌<◌, pos, IfOk};
 ghost use Rattle.charge_model.specs.declared.TheConstants.{MAX_SITES};
-ghost use Rattle.task_gen.specs.Generator.{column_after, drawn, next_state, site_by, sites_of, state_after};
+ghost use Rattle.task_gen.specs.Generator.{column_after, drawn, next_state, site_by, sites_for_number, state_after};
 
 use sidb_layout::Site;
 use sidb_units::Memory;
@@ -26,14 +26,14 @@ fn drawn(state: u64) -> u64
 
 /// A site, the column that it stands in, and the state behind its draws.
 #[derive(Clone, Copy)]
-struct Drawing {
+struct DrawnSite {
     site: Site,
     column: u64,
     state: u64,
 }
 
 /// The next site.
-fn site_after(state: u64, column: u64) -> Drawing
+fn site_after(state: u64, column: u64) -> DrawnSite
     requires { column ≤ 704 }
     ensures site { result.site ≡ site_by state column }
     ensures column { result.column ≡ column_after state column }
@@ -44,7 +44,7 @@ fn site_after(state: u64, column: u64) -> Drawing
     let second = next_state(first);
     let third = next_state(second);
     let column = column + (drawn(first) % 8 + 4);
-    Drawing {
+    DrawnSite {
         site: Site {
             n: column as i64,
             m: (drawn(second) % 3) as i64,
@@ -60,7 +60,7 @@ fn site_after(state: u64, column: u64) -> Drawing
 /// third, modulo 2, its atom.
 pub fn generated_sites(alloc: Global, number: u64, count: u64) -> Result<Vec<Site>, Memory>
     requires { count ≤ MAX_SITES }
-    ensures { IfOk result (λ sites. sites.items ≡ sites_of number count) }
+    ensures { IfOk result (λ sites. sites.items ≡ sites_for_number number count) }
 {
     let mut sites = Vec::new(alloc);
     let mut column = 0;

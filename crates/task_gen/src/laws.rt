@@ -10,7 +10,7 @@ ghost use Rattle.run_answer.specs.declared.status.Status.{Status as StatusData};
 ghost use Rattle.run_answer.specs.declared.status.Status.TheVariants.{Answered};
 ghost use Rattle.command_words.specs.declared.settings.Settings.{Settings as SettingsData};
 ghost use Rattle.task_gen.specs.GenAnswer.{IsGenAnswer, IsGenProblem};
-ghost use Rattle.task_gen.specs.Generator.{sites_of};
+ghost use Rattle.task_gen.specs.Generator.{sites_for_number};
 ghost use Rattle.task_gen.specs.Told.{TellsGeneratedList};
 
 use ground_state::laws::{one_answer, solutions_are_listed};
@@ -24,14 +24,14 @@ use task_ground::laws::ground_lists_hold;
 /// A number generates as many sites as are asked for.
 #[tactic(auto, using(crate::proofs::Fine::count_of))]
 pub fn so_many_sites_are_generated()
-    ensures { (number count : ℕ) → length (sites_of number count) ≡ count }
+    ensures { (number count : ℕ) → length (sites_for_number number count) ≡ count }
 {}
 
 /// The sites that a number generates, up to 64, make a layout of the default lattice: they are in
 /// range, and their columns rise.
 pub fn generated_sites_make_a_layout()
     ensures { (number count : ℕ) → count ≤ MAX_SITES
-        → (p : Arrangement) × IsMadeOf silicon (sites_of number count) [] p }
+        → (p : Arrangement) × IsMadeOf silicon (sites_for_number number count) [] p }
 {
     clear_places_make_a_layout();
     default_lattice_is_roomy();

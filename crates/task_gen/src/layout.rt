@@ -4,7 +4,7 @@ ghost use Rattle.charge_model.specs.declared.TheConstants.{MAX_SITES};
 ghost use Rattle.sidb_layout.specs.Lattice.{silicon};
 ghost use Rattle.sidb_layout.specs.Refusal.{IsMadeOf};
 ghost use Rattle.task_gen.specs.GenAnswer.{IsGenProblem};
-ghost use Rattle.task_gen.specs.Generator.{sites_of};
+ghost use Rattle.task_gen.specs.Generator.{sites_for_number};
 
 use crate::generated_sites;
 use command_words::Settings;
@@ -28,7 +28,7 @@ fn only_memory(fault: LayoutFault) -> Memory
 /// rise, and in range, since each column is at most 11 further than the one before.
 pub fn generated_layout(alloc: Global, number: u64, count: u64) -> Result<Layout, Memory>
     requires { count ≤ MAX_SITES }
-    ensures { IfOk result (IsMadeOf silicon (sites_of number count) []) }
+    ensures { IfOk result (IsMadeOf silicon (sites_for_number number count) []) }
 {
     let sites = generated_sites(alloc, number, count)?;
     match layout_of(alloc, sites.as_slice()) {

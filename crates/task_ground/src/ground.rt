@@ -1,6 +1,6 @@
 ghost use Rattle.std.specs.Prelude.{IfOk};
 ghost use Rattle.charge_model.specs.GroundList.{IsMarkedGroundList};
-ghost use Rattle.ground_state.specs.Answer.{IsWithinBudget};
+ghost use Rattle.ground_state.specs.Answer.{IsWithinLimit};
 ghost use Rattle.run_answer.specs.Due.{DueIs};
 ghost use Rattle.task_ground.specs.GroundAnswer.{IsGroundAnswer};
 
@@ -44,7 +44,7 @@ fn list_due(
     problem: &Problem,
     list: &GroundList,
 ) -> Result<Due, Memory>
-    requires budget { IsWithinBudget problem.now settings.now.search.limit }
+    requires budget { IsWithinLimit problem.now settings.now.search.limit }
     requires list { IsMarkedGroundList problem.now list.now }
     ensures { IfOk result (DueIs (IsGroundAnswer settings.now about.now problem.now)) }
 {

@@ -1,6 +1,6 @@
 // The report of a ground list.
 ghost use Rattle.std.specs.Prelude.{string_bytes, IfOk};
-ghost use Rattle.ground_report.specs.Subject.{AreOf};
+ghost use Rattle.ground_report.specs.Subject.{AreListsOfProblem};
 ghost use Rattle.task_ground.specs.GroundAnswer.{IsReport};
 
 use command_words::Settings;
@@ -19,7 +19,7 @@ pub fn report_of(
     problem: &Problem,
     list: &GroundList,
 ) -> Result<String, Memory>
-    requires { AreOf problem.now list.now }
+    requires { AreListsOfProblem problem.now list.now }
     ensures { IfOk result (λ text. IsReport settings.now about.now problem.now list.now
         (string_bytes text)) }
 {

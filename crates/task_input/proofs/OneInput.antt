@@ -11,8 +11,8 @@ use Rattle.sqd_layout.specs.SqdFault.{SqdFault}
 use Rattle.sqd_layout.specs.SitesFaults.{IsSitesText, IsSitesFault}
 use Rattle.sqd_layout.specs.DotsFaults.{IsSqdText, IsSqdFault}
 use Rattle.command_words.specs.declared.settings.Settings.{Settings}
-use Rattle.command_words.specs.declared.settings.Form.{Form}
-use Rattle.command_words.specs.declared.settings.Form.TheVariants.{Sites as SitesForm, Sqd as SqdForm, Table as TableForm}
+use Rattle.command_words.specs.declared.settings.InputForm.{InputForm}
+use Rattle.command_words.specs.declared.settings.InputForm.TheVariants.{Sites as SitesForm, Sqd as SqdForm, Table as TableForm}
 use Rattle.fault_lines.specs.declared.input_fault.InputFault.{InputFault}
 use Rattle.fault_lines.specs.declared.input_fault.InputFault.TheVariants.{TooLong, Layout, Table, Text, GateSite}
 use Rattle.ground_report.specs.declared.about.About.{About}
@@ -28,7 +28,7 @@ pub record PartsAreOne : Type 0 where
 same_problem : PartsAreOne → (params : Params) (layout : Arrangement) (p q : Problem) → IsOfLayout params layout p → IsOfLayout params layout q → p ≡ q
 same_problem one params layout p q a b = one.problem layout params p q a.problem b.problem
 
-same_means : PartsAreOne → (form : Form) (params : Params) (bytes : List ℕ) (p q : Problem) (a b : About) → Means form params bytes p a → Means form params bytes q b → (p ≡ q) × (a ≡ b)
+same_means : PartsAreOne → (form : InputForm) (params : Params) (bytes : List ℕ) (p q : Problem) (a b : About) → Means form params bytes p a → Means form params bytes q b → (p ≡ q) × (a ≡ b)
 same_means one SitesForm params bytes p q a b is also =
     let layout = one.layout bytes is.layout also.layout is.text also.text in (
       same_problem one params also.layout p q (subst (λ (l : Arrangement). IsOfLayout params l p) layout is.gives) also.gives,
@@ -47,7 +47,7 @@ same_input one s bytes p q a b is also = same_means one s.form s.params bytes p 
 pub same_fault : ((text : List ℕ) (f g : SqdFault) → IsSitesFault text f → IsSitesFault text g → f ≡ g)
     → ((text : List ℕ) (f g : SqdFault) → IsSqdFault text f → IsSqdFault text g → f ≡ g)
     → ((text : List ℕ) (f g : TableFault) → IsTableFault text f → IsTableFault text g → f ≡ g)
-    → (form : Form) (bytes : List ℕ) (f g : InputFault) → IsInputFault form bytes f → IsInputFault form bytes g → f ≡ g
+    → (form : InputForm) (bytes : List ℕ) (f g : InputFault) → IsInputFault form bytes f → IsInputFault form bytes g → f ≡ g
 same_fault sites sqd table form bytes TooLong TooLong a b = refl
 same_fault sites sqd table SitesForm bytes TooLong (Layout g) a b = absurd (omega (arith, a, b.0))
 same_fault sites sqd table SqdForm bytes TooLong (Layout g) a b = absurd (omega (arith, a, b.0))
@@ -80,7 +80,7 @@ same_fault sites sqd table TableForm bytes f (GateSite g) a b = absurd b
 fault_or_meaning : ((text : List ℕ) (p : Arrangement) (f : SqdFault) → IsSitesText text p → IsSitesFault text f → ⊥)
     → ((text : List ℕ) (p : Arrangement) (skipped : ℕ) (f : SqdFault) → IsSqdText text p skipped → IsSqdFault text f → ⊥)
     → ((text : List ℕ) (p : Problem) (f : TableFault) → IsTableText text p → IsTableFault text f → ⊥)
-    → (form : Form) (params : Params) (bytes : List ℕ) (p : Problem) (a : About) (f : InputFault) → length bytes ≤ MAX_INPUT_BYTES → Means form params bytes p a → IsInputFault form bytes f → ⊥
+    → (form : InputForm) (params : Params) (bytes : List ℕ) (p : Problem) (a : About) (f : InputFault) → length bytes ≤ MAX_INPUT_BYTES → Means form params bytes p a → IsInputFault form bytes f → ⊥
 fault_or_meaning sites sqd table form params bytes p a TooLong short means fault = omega (arith, short, fault)
 fault_or_meaning sites sqd table SitesForm params bytes p a (Layout f) short means fault = sites bytes means.layout f means.text fault.1
 fault_or_meaning sites sqd table TableForm params bytes p a (Table f) short means fault = table bytes p f means.text fault.1

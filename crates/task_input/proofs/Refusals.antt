@@ -8,8 +8,8 @@ use Rattle.table_reading.specs.declared.fault.TableFault.{TableFault}
 use Rattle.sqd_layout.specs.SqdFault.{SqdFault}
 use Rattle.sqd_layout.specs.SqdFault.TheVariants.{Memory as NoMemoryForLayout}
 use Rattle.command_words.specs.declared.settings.Settings.{Settings}
-use Rattle.command_words.specs.declared.settings.Form.{Form}
-use Rattle.command_words.specs.declared.settings.Form.TheVariants.{Sites as SitesForm, Sqd as SqdForm, Table as TableForm}
+use Rattle.command_words.specs.declared.settings.InputForm.{InputForm}
+use Rattle.command_words.specs.declared.settings.InputForm.TheVariants.{Sites as SitesForm, Sqd as SqdForm, Table as TableForm}
 use Rattle.fault_lines.specs.declared.input_fault.InputFault.TheVariants.{TooLong, Layout, Table}
 use Rattle.ground_report.specs.declared.about.About.{About}
 use Rattle.task_input.specs.Input.{IsInput, IsInputFault, IsOfLayout, MeansSites, MeansTable, about_layout}
@@ -40,7 +40,7 @@ too_many_bytes : (s : Settings) (bytes : List ℕ) (p : Problem) (a : About) →
 too_many_bytes s bytes p a more is = let short = is.short in omega (arith, more, short)
 
 -- no faults
-few_enough : (form : Form) (bytes : List ℕ) → length bytes ≡ 1048576 → IsInputFault form bytes TooLong → ⊥
+few_enough : (form : InputForm) (bytes : List ℕ) → length bytes ≡ 1048576 → IsInputFault form bytes TooLong → ⊥
 few_enough form bytes few wrong = omega (arith, few, wrong)
 
 of_a_table : (bytes : List ℕ) (f : TableFault) → IsInputFault SitesForm bytes (Table f) → ⊥

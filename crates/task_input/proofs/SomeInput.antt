@@ -12,8 +12,8 @@ use Rattle.sqd_layout.specs.SqdFault.{SqdFault}
 use Rattle.sqd_layout.specs.SitesFaults.{IsSitesText, IsSitesFault}
 use Rattle.sqd_layout.specs.DotsFaults.{IsSqdText, IsSqdFault}
 use Rattle.command_words.specs.declared.settings.Settings.{Settings}
-use Rattle.command_words.specs.declared.settings.Form.{Form}
-use Rattle.command_words.specs.declared.settings.Form.TheVariants.{Sites as SitesForm, Sqd as SqdForm, Table as TableForm}
+use Rattle.command_words.specs.declared.settings.InputForm.{InputForm}
+use Rattle.command_words.specs.declared.settings.InputForm.TheVariants.{Sites as SitesForm, Sqd as SqdForm, Table as TableForm}
 use Rattle.fault_lines.specs.declared.input_fault.InputFault.{InputFault}
 use Rattle.fault_lines.specs.declared.input_fault.InputFault.TheVariants.{TooLong, Layout, Table}
 use Rattle.fault_lines.specs.FaultLines.{IsNamed}
@@ -35,15 +35,15 @@ of_layout laws params layout valid =
     (made.0, record { problem = made.1; holds = made.2 }, made.3)
 
 -- the bytes mean a problem in a form
-abbrev HasMeaning : Form → Params → List ℕ → Type 0
+abbrev HasMeaning : InputForm → Params → List ℕ → Type 0
 HasMeaning form params bytes = (p : Problem) × (about : About) × Means form params bytes p about × IsProblem p
 
 -- the fault of the bytes in a form
-abbrev HasFault : Form → List ℕ → Type 0
+abbrev HasFault : InputForm → List ℕ → Type 0
 HasFault form bytes = (f : InputFault) × IsInputFault form bytes f × IsNamed f
 
 -- few enough bytes have one of the two
-in_form : AreInputLaws → (params : Params) (form : Form) (bytes : List ℕ) → length bytes ≤ MAX_INPUT_BYTES → HasMeaning form params bytes ⊎ HasFault form bytes
+in_form : AreInputLaws → (params : Params) (form : InputForm) (bytes : List ℕ) → length bytes ≤ MAX_INPUT_BYTES → HasMeaning form params bytes ⊎ HasFault form bytes
 in_form laws params SitesForm bytes short = by (laws.sites bytes)
   where
     by : ((p : Arrangement) × IsSitesText bytes p) ⊎ ((f : SqdFault) × IsSitesFault bytes f) → HasMeaning SitesForm params bytes ⊎ HasFault SitesForm bytes

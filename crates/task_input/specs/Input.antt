@@ -11,8 +11,8 @@ use Rattle.sqd_layout.specs.SqdFault.TheVariants.{Memory as NoMemoryForLayout}
 use Rattle.sqd_layout.specs.SitesFaults.{IsSitesText, IsSitesFault}
 use Rattle.sqd_layout.specs.DotsFaults.{IsSqdText, IsSqdFault}
 use Rattle.command_words.specs.declared.settings.Settings.{Settings}
-use Rattle.command_words.specs.declared.settings.Form.{Form}
-use Rattle.command_words.specs.declared.settings.Form.TheVariants.{Sites as SitesForm, Sqd as SqdForm, Table as TableForm}
+use Rattle.command_words.specs.declared.settings.InputForm.{InputForm}
+use Rattle.command_words.specs.declared.settings.InputForm.TheVariants.{Sites as SitesForm, Sqd as SqdForm, Table as TableForm}
 use Rattle.fault_lines.specs.declared.input_fault.InputFault.{InputFault}
 use Rattle.fault_lines.specs.declared.input_fault.InputFault.TheVariants.{TooLong, Layout, Table}
 use Rattle.ground_report.specs.declared.about.About.{About}
@@ -57,7 +57,7 @@ pub record MeansTable (bytes : List ℕ) (p : Problem) (about : About) : Type 0 
   pub told : about ≡ about_no_layout
 
 -- what the bytes mean in a form
-abbrev pub Means : Form → Params → List ℕ → Problem → About → Type 0
+abbrev pub Means : InputForm → Params → List ℕ → Problem → About → Type 0
 Means SitesForm params bytes p about = MeansSites params bytes p about
 Means SqdForm params bytes p about = MeansSqd params bytes p about
 Means TableForm params bytes p about = MeansTable bytes p about
@@ -68,7 +68,7 @@ pub record IsInput (s : Settings) (bytes : List ℕ) (p : Problem) (about : Abou
   pub means : Means s.form s.params bytes p about
 
 -- why bytes are refused in a form: there are too many, or by the first fault of their text
-abbrev pub IsInputFault : Form → List ℕ → InputFault → Type 0
+abbrev pub IsInputFault : InputForm → List ℕ → InputFault → Type 0
 IsInputFault form bytes TooLong = MAX_INPUT_BYTES < length bytes
 IsInputFault SitesForm bytes (Layout fault) =
     (length bytes ≤ MAX_INPUT_BYTES) × IsSitesFault bytes fault

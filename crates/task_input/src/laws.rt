@@ -1,7 +1,7 @@
 //! What holds of every input: it has one meaning, or one fault.
 ghost use Rattle.std.specs.Prelude.{◌≡◌, ◌≢◌, ◌⊎◌, ℕ, List, Some};
 ghost use Rattle.charge_model.specs.Problem.{Problem as ProblemData, IsProblem};
-ghost use Rattle.command_words.specs.declared.settings.Form.{Form};
+ghost use Rattle.command_words.specs.declared.settings.InputForm.{InputForm};
 ghost use Rattle.command_words.specs.declared.settings.Settings.{Settings};
 ghost use Rattle.fault_lines.specs.declared.input_fault.InputFault.{InputFault};
 ghost use Rattle.fault_lines.specs.FaultLines.{IsNamed};
@@ -26,7 +26,7 @@ pub fn one_input()
 
 /// In one form bytes have one fault at most.
 pub fn one_fault()
-    ensures { (form : Form) (bytes : List ℕ) (f g : InputFault) → IsInputFault form bytes f
+    ensures { (form : InputForm) (bytes : List ℕ) (f g : InputFault) → IsInputFault form bytes f
         → IsInputFault form bytes g → f ≡ g }
 {
     sqd_layout::laws::one_fault();
@@ -66,7 +66,7 @@ pub fn spans_hold_distances()
 /// An input that is not a table has a layout.
 pub fn inputs_have_layouts()
     ensures { (s : Settings) (bytes : List ℕ) (p : ProblemData) (a : AboutData)
-        → IsInput s bytes p a → s.form ≢ Form.Table
+        → IsInput s bytes p a → s.form ≢ InputForm.Table
         → (layout : Arrangement) × (a.layout ≡ Some layout) }
 {}
 

@@ -1,5 +1,5 @@
 ghost use Rattle.std.specs.Prelude.{◌≡◌, ◌⊎◌, IfOk, IfErr};
-ghost use Rattle.ground_report.specs.Subject.{IsAbout};
+ghost use Rattle.ground_report.specs.Subject.{IsAboutProblem};
 ghost use Rattle.table_reading.specs.Reading.{IsTableFault};
 ghost use Rattle.sqd_layout.specs.SitesFaults.{IsSitesFault};
 ghost use Rattle.sqd_layout.specs.DotsFaults.{IsSqdFault};
@@ -7,7 +7,7 @@ ghost use Rattle.task_input.specs.Input.{IsInput, IsInputFault, IsWantOfMemory, 
 
 use crate::layouts::layout_input;
 use crate::{About, Input};
-use command_words::{Form, Settings};
+use command_words::{InputForm, Settings};
 use fault_lines::InputFault;
 use potential_table::{TableFault, read_table};
 use screened_coulomb::Params;
@@ -20,7 +20,7 @@ use std::alloc::Global;
 pub fn read_input(alloc: Global, settings: &Settings, bytes: &[u8]) -> Result<Input, InputFault>
     ensures found { IfOk result (λ input.
         IsInput settings.now bytes.now input.problem input.about) }
-    ensures sites { IfOk result (λ input. IsAbout input.about input.problem) }
+    ensures sites { IfOk result (λ input. IsAboutProblem input.about input.problem) }
     ensures fault { IfErr result (λ fault.
         IsWantOfMemory fault ⊎ IsInputFault settings.now.form bytes.now fault) }
 {
@@ -28,15 +28,15 @@ pub fn read_input(alloc: Global, settings: &Settings, bytes: &[u8]) -> Result<In
         return Err(InputFault::TooLong);
     }
     match settings.form {
-        Form::Sites => match sites_input(alloc, &settings.params, bytes) {
+        InputForm::Sites => match sites_input(alloc, &settings.params, bytes) {
             Ok(input) => Ok(input),
             Err(fault) => Err(InputFault::Layout(fault)),
         },
-        Form::Sqd => match sqd_input(alloc, &settings.params, bytes) {
+        InputForm::Sqd => match sqd_input(alloc, &settings.params, bytes) {
             Ok(input) => Ok(input),
             Err(fault) => Err(InputFault::Layout(fault)),
         },
-        Form::Table => match table_input(alloc, bytes) {
+        InputForm::Table => match table_input(alloc, bytes) {
             Ok(input) => Ok(input),
             Err(fault) => Err(InputFault::Table(fault)),
         },
@@ -47,7 +47,7 @@ pub fn read_input(alloc: Global, settings: &Settings, bytes: &[u8]) -> Result<In
 fn sites_input(alloc: Global, params: &Params, bytes: &[u8]) -> Result<Input, SqdFault>
     ensures found { IfOk result (λ input.
         MeansSites params.now bytes.now input.problem input.about) }
-    ensures sites { IfOk result (λ input. IsAbout input.about input.problem) }
+    ensures sites { IfOk result (λ input. IsAboutProblem input.about input.problem) }
     ensures fault { IfErr result (λ fault.
         (fault ≡ SqdFault.Memory) ⊎ IsSitesFault bytes.now fault) }
 {
@@ -59,7 +59,7 @@ fn sites_input(alloc: Global, params: &Params, bytes: &[u8]) -> Result<Input, Sq
 fn sqd_input(alloc: Global, params: &Params, bytes: &[u8]) -> Result<Input, SqdFault>
     ensures found { IfOk result (λ input.
         MeansSqd params.now bytes.now input.problem input.about) }
-    ensures sites { IfOk result (λ input. IsAbout input.about input.problem) }
+    ensures sites { IfOk result (λ input. IsAboutProblem input.about input.problem) }
     ensures fault { IfErr result (λ fault.
         (fault ≡ SqdFault.Memory) ⊎ IsSqdFault bytes.now fault) }
 {
@@ -70,7 +70,7 @@ fn sqd_input(alloc: Global, params: &Params, bytes: &[u8]) -> Result<Input, SqdF
 /// The input of a table text, which has no layout.
 fn table_input(alloc: Global, bytes: &[u8]) -> Result<Input, TableFault>
     ensures found { IfOk result (λ input. MeansTable bytes.now input.problem input.about) }
-    ensures sites { IfOk result (λ input. IsAbout input.about input.problem) }
+    ensures sites { IfOk result (λ input. IsAboutProblem input.about input.problem) }
     ensures fault { IfErr result (λ fault.
         (fault ≡ TableFault.Memory) ⊎ IsTableFault bytes.now fault) }
 {

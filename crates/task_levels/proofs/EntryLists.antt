@@ -8,12 +8,12 @@ use Rattle.charge_model.specs.Problem.{Problem}
 use Rattle.charge_model.specs.Rules.{IsChargeList}
 use Rattle.charge_model.specs.GroundList.{Entry, lists_of}
 use Rattle.window_model.specs.Windows.{IsMarkedWindowList, IsWithin}
-use Rattle.ground_report.specs.Subject.{AreOf}
+use Rattle.ground_report.specs.Subject.{AreListsOfProblem}
 use Rattle.occupation.specs.declared.share.Share.{Share}
 use Rattle.occupation.specs.Shares.{AreRoundedShares, IsRoundedShare}
 
 -- the entries of a marked window list are charge lists of the problem
-pub entries_of : (p : Problem) (window : ℤ) (es : List Entry) → IsMarkedWindowList p window es → AreOf p es
+pub entries_of : (p : Problem) (window : ℤ) (es : List Entry) → IsMarkedWindowList p window es → AreListsOfProblem p es
 entries_of p window es is = listed es is.within.only_listed
   where
     listed : (es : List Entry) → All (IsWithin p window) (map (λ e. e.charges) es) → All (λ e. IsChargeList p e.charges) es

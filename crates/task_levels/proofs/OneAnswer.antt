@@ -4,7 +4,7 @@ use Rattle.charge_model.specs.declared.charge.Charge.{Charge}
 use Rattle.charge_model.specs.Problem.{Problem}
 use Rattle.charge_model.specs.GroundList.{Entry, lists_of}
 use Rattle.command_words.specs.declared.settings.Settings.{Settings}
-use Rattle.ground_state.specs.Window.{IsWindowListedWithin, IsWindowOverBudget, IsWindowTooLongWithin, IsWindowWithinBudget}
+use Rattle.ground_state.specs.Window.{IsWindowListedWithin, IsWindowOverLimit, IsWindowTooLongWithin, IsWindowWithinLimit}
 use Rattle.ground_report.specs.declared.about.About.{About}
 use Rattle.occupation.specs.declared.share.Share.{Share}
 use Rattle.occupation.specs.Shares.{AreRoundedShares}
@@ -17,7 +17,7 @@ use Rattle.task_levels.specs.WindowAnswer.{IsListText, IsWindowListAnswer, IsWin
 pub record ListsAreOne : Type 0 where
   pub list : (p : Problem) (window : ℤ) (limit : ℕ) (es fs : List Entry) → IsWindowListedWithin p window limit es → IsWindowListedWithin p window limit fs → es ≡ fs
   pub length : (p : Problem) (window : ℤ) (limit : ℕ) (es : List Entry) → IsWindowListedWithin p window limit es → IsWindowTooLongWithin p window limit → ⊥
-  pub budget : (p : Problem) (window : ℤ) (limit : ℕ) → IsWindowWithinBudget p window limit → IsWindowOverBudget p window limit → ⊥
+  pub budget : (p : Problem) (window : ℤ) (limit : ℕ) → IsWindowWithinLimit p window limit → IsWindowOverLimit p window limit → ⊥
 
 -- a window text is one
 abbrev pub TextsAreOne : Type 0

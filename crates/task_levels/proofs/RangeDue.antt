@@ -4,7 +4,7 @@ use Rattle.std.specs.Prelude.{neg_ℤ, Result, Ok, Err, IfOk}
 use Rattle.std.proofs.lemmas.Int.{ints, to_z-of_z, fits_signed_from_abs}
 use Rattle.charge_model.specs.Problem.{Problem}
 use Rattle.sidb_units.specs.declared.memory.Memory.{Memory}
-use Rattle.model_params.specs.Quantities.{IsWithin, level_depth}
+use Rattle.model_params.specs.Quantities.{IsInRangeOf, level_depth}
 use Rattle.command_words.specs.declared.settings.DepthRange.{DepthRange}
 use Rattle.command_words.specs.declared.settings.Settings.{Settings}
 use Rattle.level_range.specs.Answer.{levels_of}
@@ -22,14 +22,14 @@ below_zero : (d : ℤ) → pos 0 -ℤ d ≡ neg_ℤ d
 below_zero d = omega (arith, ints)
 
 -- a depth, as 64 bits keep it
-kept : (d : ℤ) → IsWithin level_depth d → to_z w64 (of_z w64 d) ≡ d
+kept : (d : ℤ) → IsInRangeOf level_depth d → to_z w64 (of_z w64 d) ≡ d
 kept d h = to_z-of_z w64 d (fits_signed_from_abs w64 d (small d h.from h.to))
 
 -- the level below 0 of a depth, as 64 bits keep both
 abbrev kept_level : ℤ → ℤ
 kept_level d = to_z w64 (of_z w64 (pos 0 -ℤ to_z w64 (of_z w64 d)))
 
-level_of : (d : ℤ) → IsWithin level_depth d → kept_level d ≡ neg_ℤ d
+level_of : (d : ℤ) → IsInRangeOf level_depth d → kept_level d ≡ neg_ℤ d
 level_of d h = ap (λ z. to_z w64 (of_z w64 (pos 0 -ℤ z))) (kept d h) ∙ to_z-of_z w64 (pos 0 -ℤ d) (fits_signed_from_abs w64 (pos 0 -ℤ d) (small_below d h.from h.to)) ∙ below_zero d
 
 -- so the levels that are gone through are those of the range

@@ -3,7 +3,7 @@ use Rattle.std.proofs.Common.{inl, inr, List, ℕ}
 use Rattle.charge_model.specs.Problem.{Problem}
 use Rattle.command_words.specs.declared.settings.Settings.{Settings}
 use Rattle.ground_report.specs.declared.about.About.{About}
-use Rattle.ground_state.specs.Window.{IsWindowOverBudget, IsWindowTooLongWithin}
+use Rattle.ground_state.specs.Window.{IsWindowOverLimit, IsWindowTooLongWithin}
 use Rattle.run_answer.specs.declared.status.Status.TheVariants.{Budget, ListTooLong, Memory}
 use Rattle.task_levels.specs.OccupationAnswer.{IsOccupationAnswer}
 use Rattle.task_levels.specs.WindowAnswer.{IsWindowListAnswer}
@@ -14,7 +14,7 @@ never_memory s about p text (inr (inl over)) = let wrong = over.1.0 in absurd (c
 never_memory s about p text (inr (inr long)) = let wrong = long.1.0 in absurd (cc)
 
 only_over_budget : (s : Settings) (about : About) (p : Problem) (text : List ℕ) → IsWindowListAnswer s about p Budget text
-    → IsWindowOverBudget p s.levels.window.width s.search.limit
+    → IsWindowOverLimit p s.levels.window.width s.search.limit
 only_over_budget s about p text (inl is) = let wrong = is.0 in absurd (cc)
 only_over_budget s about p text (inr (inl over)) = over.0
 only_over_budget s about p text (inr (inr long)) = let wrong = long.1.0 in absurd (cc)

@@ -16,7 +16,7 @@ use Rattle.entry_lines.specs.EntryLines.{entry_words}
 use Rattle.fault_lines.specs.FaultLines.{budget_line, list_too_long_line}
 use Rattle.ground_report.specs.declared.about.About.{About}
 use Rattle.ground_report.specs.Energies.{AreEnergies}
-use Rattle.ground_state.specs.Window.{IsWindowListedWithin, IsWindowWithinBudget}
+use Rattle.ground_state.specs.Window.{IsWindowListedWithin, IsWindowWithinLimit}
 use Rattle.occupation.specs.declared.share.Share.{Share}
 use Rattle.occupation.specs.Shares.{AreRoundedShares}
 use Rattle.run_answer.specs.declared.status.Status.{Status}
@@ -49,7 +49,7 @@ IsListed s p = (es : List Entry) × IsWindowListedWithin p s.levels.window.width
 
 module _ (laws : AreListLaws) (s : Settings) (p : Problem) (valid : IsProblem p) where
   -- within the limit: the list, or it is too long
-  within_budget : IsWindowWithinBudget p s.levels.window.width s.search.limit → IsRefused s p ⊎ IsListed s p
+  within_budget : IsWindowWithinLimit p s.levels.window.width s.search.limit → IsRefused s p ⊎ IsListed s p
   within_budget budget = with (laws.list p s.levels.window.width valid s.levels.window.is_window.least)
     where
       with : ((es : List Entry) × IsMarkedWindowList p s.levels.window.width es) → IsRefused s p ⊎ IsListed s p

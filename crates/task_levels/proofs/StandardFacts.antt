@@ -6,7 +6,7 @@ use Rattle.charge_model.specs.declared.charge.Charge.TheVariants.{Neg}
 use Rattle.charge_model.specs.Problem.{Problem}
 use Rattle.charge_model.specs.GroundList.{Entry, lists_of}
 use Rattle.command_words.specs.declared.settings.Settings.{Settings}
-use Rattle.ground_state.specs.Window.{IsWindowListedWithin, IsWindowOverBudget}
+use Rattle.ground_state.specs.Window.{IsWindowListedWithin, IsWindowOverLimit}
 use Rattle.ground_report.specs.declared.about.About.{About}
 use Rattle.run_answer.specs.declared.status.Status.TheVariants.{Answered, Budget}
 use Rattle.occupation.specs.declared.share.Share.{Share}
@@ -20,7 +20,7 @@ abbrev pub line : List ℕ → List ℕ → List ℕ
 line words rest = words ++ 10 ∷ rest
 
 fault_budget : (s : Settings) (about : About) (p : Problem) → s.search.limit ≡ 9840
-    → IsWindowOverBudget p s.levels.window.width s.search.limit
+    → IsWindowOverLimit p s.levels.window.width s.search.limit
     → IsWindowListAnswer s about p Budget (line (codes "fault budget 9840") [])
 unfolding digits
 fault_budget s about p limit over = inr (inl (over, (refl, rw limit refl)))

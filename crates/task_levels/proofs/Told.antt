@@ -12,7 +12,7 @@ use Rattle.command_words.specs.declared.settings.Settings.{Settings}
 use Rattle.ground_report.specs.declared.about.About.{About}
 use Rattle.run_answer.specs.declared.status.Status.TheVariants.{Answered}
 use Rattle.occupation.specs.declared.share.Share.{Share}
-use Rattle.occupation.specs.Shares.{AreRoundedShares, EncloseShares, IsPart}
+use Rattle.occupation.specs.Shares.{AreRoundedShares, EncloseShares, IsPartOfWhole}
 use Rattle.task_levels.specs.OccupationAnswer.{IsOccupationAnswer, IsOccupationReport}
 use Rattle.task_levels.specs.WindowAnswer.{IsWindowListAnswer, IsWindowReport}
 use Rattle.task_levels.specs.Told.{TellsNearLists, TellsShares}
@@ -48,7 +48,7 @@ tells laws s about p text is =
 pub record ShareLaws : Type 0 where
   pub listed : (p : Problem) (window : ℤ) (es : List Entry) → IsMarkedWindowList p window es → ListsEachNear p window (lists_of es)
   pub encloses : (p : Problem) (kt : ℕ) (l : List (List Charge)) (shares : List Share) → 1 ≤ kt → AreRoundedShares p kt l shares → EncloseShares p kt l shares
-  pub parts : (p : Problem) (kt : ℕ) (l : List (List Charge)) (shares : List Share) → 1 ≤ kt → AreRoundedShares p kt l shares → All IsPart shares
+  pub parts : (p : Problem) (kt : ℕ) (l : List (List Charge)) (shares : List Share) → 1 ≤ kt → AreRoundedShares p kt l shares → All IsPartOfWhole shares
 
 shares_in : (s : Settings) (p : Problem) (text : List ℕ) → IsOccupationAnswer s p Answered text → IsOccupationReport s p text
 shares_in s p text (inl is) = is.1

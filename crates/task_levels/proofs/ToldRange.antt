@@ -7,7 +7,7 @@ use Rattle.charge_model.specs.Rules.{IsGroundState}
 use Rattle.command_words.specs.declared.settings.Settings.{Settings}
 use Rattle.level_range_laws.specs.declared.interval.Interval.{Interval}
 use Rattle.level_range_laws.specs.Levels.{at_level, IsIn}
-use Rattle.level_range_laws.specs.Answers.{Outcome, IsAnswerAt, lists_of}
+use Rattle.level_range_laws.specs.Answers.{Outcome, IsAnswerAt, lists_of_outcomes}
 use Rattle.level_range_laws.specs.Parts.{Printed, ArePrinted, IsPrintedPart, IsInOne, printed_at, printed_split}
 use Rattle.run_answer.specs.declared.status.Status.TheVariants.{Answered}
 use Rattle.task_levels.specs.RangeAnswer.{IsRangeReport, IsAnswerWithin, IsRangeAnswer, levels_between}
@@ -16,7 +16,7 @@ use Rattle.task_levels.specs.ToldAtLevels.{PartsTell, TellsAtLevels}
 -- the laws of parts and of answers
 pub record PartLaws : Type 0 where
   pub in_one : (p : Problem) (levels : Interval) (parts : List Printed) (level : ℤ) → ArePrinted p levels parts → IsIn levels level → IsInOne parts level
-  pub listed : (p : Problem) (level : ℤ) (answer : List Outcome) → IsAnswerAt p level answer → UnderEveryTable p (λ t. (c : List Charge) → IsGroundState (at_level p level) t c → Contains (lists_of answer) c)
+  pub listed : (p : Problem) (level : ℤ) (answer : List Outcome) → IsAnswerAt p level answer → UnderEveryTable p (λ t. (c : List Charge) → IsGroundState (at_level p level) t c → Contains (lists_of_outcomes answer) c)
   pub certain : (p : Problem) (level : ℤ) (answer : List Outcome) (o : Outcome) → IsAnswerAt p level answer → Contains answer o → IsTrue o.certain → UnderEveryTable p (λ t. IsGroundState (at_level p level) t o.charges)
 
 -- an answer that is given is a text

@@ -7,7 +7,7 @@ use Rattle.candidate_marks.specs.Found.{CertainAreNear, UnresolvedFailWithin}
 use Rattle.command_words.specs.declared.settings.Settings.{Settings}
 use Rattle.ground_report.specs.declared.about.About.{About}
 use Rattle.occupation.specs.declared.share.Share.{Share}
-use Rattle.occupation.specs.Shares.{EncloseShares, IsPart}
+use Rattle.occupation.specs.Shares.{EncloseShares, IsPartOfWhole}
 use Rattle.task_levels.specs.OccupationAnswer.{text_of_shares}
 use Rattle.task_levels.specs.WindowAnswer.{IsListText}
 
@@ -31,4 +31,4 @@ pub record TellsShares (s : Settings) (p : Problem) (text : List ℕ) : Type 0 w
   pub prints : text ≡ text_of_shares s p entries shares
   pub each_listed : ListsEachNear p s.levels.window.width (lists_of entries)
   pub encloses : EncloseShares p (unsigned_abs s.levels.kt) (lists_of entries) shares
-  pub parts : All IsPart shares
+  pub parts : All IsPartOfWhole shares

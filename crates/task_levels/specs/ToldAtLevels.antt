@@ -6,7 +6,7 @@ use Rattle.charge_model.specs.Rules.{IsGroundState}
 use Rattle.command_words.specs.declared.settings.DepthRange.{DepthRange}
 use Rattle.command_words.specs.declared.settings.Settings.{Settings}
 use Rattle.level_range_laws.specs.Levels.{at_level, IsIn}
-use Rattle.level_range_laws.specs.Answers.{Outcome, IsAnswerAt, lists_of}
+use Rattle.level_range_laws.specs.Answers.{Outcome, IsAnswerAt, lists_of_outcomes}
 use Rattle.level_range_laws.specs.Parts.{Printed, HasLevel, IsInOne, printed_at}
 use Rattle.range_report.specs.RangeText.{range_text}
 use Rattle.task_levels.specs.RangeAnswer.{levels_between}
@@ -16,7 +16,7 @@ use Rattle.task_levels.specs.RangeAnswer.{levels_between}
 pub record HoldsAtLevel (p : Problem) (level : ℤ) (answer : List Outcome) : Type 0 where
   pub exact : IsAnswerAt p level answer
   pub each_listed : UnderEveryTable p (λ t. (c : List Charge)
-      → IsGroundState (at_level p level) t c → Contains (lists_of answer) c)
+      → IsGroundState (at_level p level) t c → Contains (lists_of_outcomes answer) c)
   pub certain : (o : Outcome) → Contains answer o → IsTrue o.certain
       → UnderEveryTable p (λ t. IsGroundState (at_level p level) t o.charges)
 

@@ -3,7 +3,7 @@ use Rattle.std.specs.Prelude.{◌≡◌, ◌⊎◌, ℕ, List}
 use Rattle.charge_model.specs.Problem.{Problem}
 use Rattle.charge_model.specs.GroundList.{Entry}
 use Rattle.command_words.specs.declared.settings.Settings.{Settings}
-use Rattle.ground_state.specs.Window.{IsWindowListedWithin, IsWindowOverBudget, IsWindowTooLongWithin}
+use Rattle.ground_state.specs.Window.{IsWindowListedWithin, IsWindowOverLimit, IsWindowTooLongWithin}
 use Rattle.ground_report.specs.declared.about.About.{About}
 use Rattle.sim_report.specs.WindowText.{IsWindowText}
 use Rattle.run_answer.specs.declared.status.Status.{Status}
@@ -27,7 +27,7 @@ pub record IsWindowReport (s : Settings) (about : About) (p : Problem) (text : L
 -- nodes than the limit, or it has not, and the window list has too many entries
 abbrev pub IsWindowUnlisted : Settings → Problem → Status → List ℕ → Type 0
 IsWindowUnlisted s p status text =
-    (IsWindowOverBudget p s.levels.window.width s.search.limit
+    (IsWindowOverLimit p s.levels.window.width s.search.limit
     × IsBudgetAnswer s.search.limit status text)
     ⊎ (IsWindowTooLongWithin p s.levels.window.width s.search.limit
     × IsLongListAnswer status text)

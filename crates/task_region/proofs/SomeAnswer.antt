@@ -6,7 +6,7 @@ use Rattle.model_params.specs.declared.params.Params.{Params}
 use Rattle.command_words.specs.declared.gate_settings.GateSettings.{GateSettings}
 use Rattle.command_words.specs.declared.settings.Settings.{Settings}
 use Rattle.command_words.specs.Gates.{HasGate}
-use Rattle.command_words.specs.Options.{IsRead}
+use Rattle.command_words.specs.Options.{IsReadWhereGiven}
 use Rattle.command_words.specs.Settings.{HasRegionNeeds}
 use Rattle.gate_model.specs.Grids.{AreAxes, Axes, HasFarEnds}
 use Rattle.gate_model.specs.GridTexts.{IsGridText}
@@ -24,11 +24,11 @@ use Rattle.task_region.specs.RegionAnswer.{IsRegionAnswer, IsRegionOfGate, regio
 
 -- a text means a grid that keeps what each grid keeps
 abbrev pub GridsAreGrids : Type 0
-GridsAreGrids = (points : Option Text) (axes : Axes) → IsRead IsGridText points (Some axes) → AreAxes axes
+GridsAreGrids = (points : Option Text) (axes : Axes) → IsReadWhereGiven IsGridText points (Some axes) → AreAxes axes
 
 -- the grid that the settings have
-pub axes_in : GridsAreGrids → (s : Settings) (points : Option Text) (needs : HasRegionNeeds s) → IsRead IsGridText points s.gate.grid → AreAxes needs.axes
-axes_in grids s points needs read = grids points needs.axes (subst (IsRead IsGridText points) needs.points read)
+pub axes_in : GridsAreGrids → (s : Settings) (points : Option Text) (needs : HasRegionNeeds s) → IsReadWhereGiven IsGridText points s.gate.grid → AreAxes needs.axes
+axes_in grids s points needs read = grids points needs.axes (subst (IsReadWhereGiven IsGridText points) needs.points read)
 
 -- what each gate on a layout has
 pub record PartsAreThere : Type 0 where
@@ -52,7 +52,7 @@ module _ (parts : PartsAreThere) (s : Settings) (layout : Arrangement) (valid : 
           (Answered, region_report s.report.json tiles.0, inl (on, (refl, record { tiles = tiles.0; of_grid = tiles.1; prints = refl })))
       by (inr (status, text, is)) = (status, text, inr is)
 
-  pub some_answer : (points : Option Text) → HasRegionNeeds s → IsRead IsGridText points s.gate.grid → (status : Status) × (text : List ℕ) × IsRegionAnswer s layout status text
+  pub some_answer : (points : Option Text) → HasRegionNeeds s → IsReadWhereGiven IsGridText points s.gate.grid → (status : Status) × (text : List ℕ) × IsRegionAnswer s layout status text
   some_answer points needs read =
       let found = parts.gate s.gate needs.truth.gate in
       let due = some_region found.0 needs.axes found.2 (axes_in parts.grids s points needs read) needs.far_ends in

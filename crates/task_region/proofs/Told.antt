@@ -4,7 +4,7 @@ use Rattle.clap.specs.Walk.{Text}
 use Rattle.sidb_layout.specs.Layout.{Arrangement}
 use Rattle.model_params.specs.declared.params.Params.{Params}
 use Rattle.command_words.specs.declared.settings.Settings.{Settings}
-use Rattle.command_words.specs.Options.{IsRead}
+use Rattle.command_words.specs.Options.{IsReadWhereGiven}
 use Rattle.command_words.specs.Settings.{HasRegionNeeds}
 use Rattle.gate_model.specs.Grids.{AreAxes, Axes, HasFarEnds}
 use Rattle.gate_model.specs.GridTexts.{IsGridText}
@@ -13,7 +13,7 @@ use Rattle.bdl_pairs.specs.declared.cell.CellAnswer.{CellAnswer}
 use Rattle.operational_domain.specs.Placed.{Placed}
 use Rattle.parameter_regions.specs.declared.rectangles.Rectangle.{Rectangle}
 use Rattle.parameter_regions.specs.Points.{Point}
-use Rattle.parameter_regions.specs.Rectangles.{IsIn}
+use Rattle.parameter_regions.specs.Rectangles.{IsInRectangle}
 use Rattle.region_tiles.specs.declared.tiles.Tile.{Tile}
 use Rattle.region_tiles.specs.Rectangles.{IsGridWhole}
 use Rattle.region_tiles.specs.Tiles.{AreJudgedTiles}
@@ -34,7 +34,7 @@ pub record RegionsHold : Type 0 where
       → AreJudgedTiles (IsTileAnswer placed) whole tiles
   pub tells : (placed : Placed) (r : Rectangle) (answer : CellAnswer) → IsTileAnswer placed r answer → TellsEverywhere placed r answer
   pub told : (placed : Placed) (p : Params) (a : Axes) (depth : ℕ) (whole : Rectangle) (tiles : List Tile) → AreAxes a → IsGridWhole p a whole → AreRegionTiles placed p a depth tiles
-      → (point : Point) → IsIn whole point → IsToldBy placed tiles point
+      → (point : Point) → IsInRectangle whole point → IsToldBy placed tiles point
 
 module _ (laws : RegionsHold) (s : Settings) (gate : Logic) (a : Axes) (layout : Arrangement) (text : List ℕ) (axes : AreAxes a) (far : HasFarEnds a) where
   report_tells : IsRegionReport s (placed_by s gate layout) a text → TellsRegionOfGate s gate a layout text
@@ -60,7 +60,7 @@ module _ (laws : RegionsHold) (s : Settings) (gate : Logic) (a : Axes) (layout :
 same_axes : (grid : Option Axes) (a b : Axes) → grid ≡ Some a → grid ≡ Some b → a ≡ b
 same_axes grid a b e f = cc (e, f)
 
-pub told_region : RegionsHold → (s : Settings) (points : Option Text) (layout : Arrangement) (text : List ℕ) → HasRegionNeeds s → IsRead IsGridText points s.gate.grid
+pub told_region : RegionsHold → (s : Settings) (points : Option Text) (layout : Arrangement) (text : List ℕ) → HasRegionNeeds s → IsReadWhereGiven IsGridText points s.gate.grid
     → IsRegionAnswer s layout Answered text → TellsRegion s layout text
 told_region laws s points layout text needs read is =
     let same = same_axes s.gate.grid needs.axes is.axes needs.points is.points in

@@ -7,7 +7,7 @@ use Rattle.gate_model.specs.Logic.{Logic}
 use Rattle.operational_domain.specs.Placed.{Placed}
 use Rattle.parameter_regions.specs.declared.rectangles.Rectangle.{Rectangle}
 use Rattle.parameter_regions.specs.Points.{Point}
-use Rattle.parameter_regions.specs.Rectangles.{IsIn}
+use Rattle.parameter_regions.specs.Rectangles.{IsInRectangle}
 use Rattle.region_tiles.specs.declared.tiles.Tile.{Tile}
 use Rattle.region_tiles.specs.Rectangles.{IsGridWhole}
 use Rattle.region_tiles.specs.Tiles.{AreTiles, rectangles_in}
@@ -31,7 +31,7 @@ pub record TellsRegionOfGate (s : Settings) (gate : Logic) (a : Axes) (layout : 
   pub of_grid : IsGridWhole s.params a whole
   pub tiling : AreTiles whole (rectangles_in tiles)
   pub holds : All (TileTells (placed_by s gate layout)) tiles
-  pub told : (point : Point) → IsIn whole point
+  pub told : (point : Point) → IsInRectangle whole point
       → IsToldBy (placed_by s gate layout) tiles point
 
 -- that, for the gate and the grid that the settings give

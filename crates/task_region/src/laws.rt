@@ -5,7 +5,7 @@ ghost use Rattle.clap.specs.Walk.{Text};
 ghost use Rattle.sidb_layout.specs.Layout.{Arrangement, IsLayout};
 ghost use Rattle.gate_model.specs.GridTexts.{IsGridText};
 ghost use Rattle.command_words.specs.declared.settings.Settings.{Settings as SettingsData};
-ghost use Rattle.command_words.specs.Options.{IsRead};
+ghost use Rattle.command_words.specs.Options.{IsReadWhereGiven};
 ghost use Rattle.command_words.specs.Settings.{HasRegionNeeds};
 ghost use Rattle.run_answer.specs.declared.status.Status.{Status as StatusData};
 ghost use Rattle.run_answer.specs.declared.status.Status.TheVariants.{Answered};
@@ -34,7 +34,7 @@ pub fn one_region_answer()
 /// text are the region answer.
 pub fn some_region_answer()
     ensures { (s : SettingsData) (points : Option Text) (layout : Arrangement) → IsLayout layout
-        → HasRegionNeeds s → IsRead IsGridText points s.gate.grid
+        → HasRegionNeeds s → IsReadWhereGiven IsGridText points s.gate.grid
         → (status : StatusData) × (text : List ℕ) × IsRegionAnswer s layout status text }
 {
     one_given_gate();
@@ -47,7 +47,7 @@ pub fn some_region_answer()
 /// grid, under every table of the potentials there, wherever a tile works or fails.
 pub fn region_answers_tell()
     ensures { (s : SettingsData) (points : Option Text) (layout : Arrangement) (text : List ℕ)
-        → HasRegionNeeds s → IsRead IsGridText points s.gate.grid
+        → HasRegionNeeds s → IsReadWhereGiven IsGridText points s.gate.grid
         → IsRegionAnswer s layout Answered text → TellsRegion s layout text }
 {
     given_grids_are_grids();

@@ -1,5 +1,5 @@
 -- a text as rows of words, and the whole numbers in it
-use Rattle.std.specs.Prelude.{◌≡◌, ℕ, ℤ, ◌<◌, Bool, false, not, ◌&&◌, List, [], ◌∷◌, ◌++◌, map, Option, None, Some, eqb, unsigned_abs}
+use Rattle.std.specs.Prelude.{◌≡◌, ℕ, ℤ, ◌<◌, Bool, false, not, ◌&&◌, List, [], ◌∷◌, ◌++◌, map, Option, None, Some, eqb, unsigned_abs, codes}
 use Rattle.std.specs.List.{slice_split, join_with_byte, list_all}
 use Rattle.std.specs.Fmt.{signed_decimal}
 
@@ -19,6 +19,10 @@ rows text = map words (lines text)
 abbrev pub text_of : List (List (List ℕ)) → List ℕ
 text_of [] = []
 text_of (row ∷ more) = join_with_byte 32 row ++ 10 ∷ text_of more
+
+-- the last row of a text of the program
+abbrev pub end_rows : List (List (List ℕ))
+end_rows = (codes "end" ∷ []) ∷ []
 
 -- whether a word holds no space and no line feed
 abbrev pub is_word : List ℕ → Bool

@@ -1,6 +1,6 @@
 ghost use Rattle.std.specs.Prelude.{◌≡◌, ◌<◌, ◌≤◌, length};
 
-use crate::window::Window;
+use crate::histogram::EnergyHistogram;
 use charge_state::{Charge, Charges};
 use potential_problem::Problem;
 use prefix_bound::laws::pops_undo_pushes;
@@ -21,7 +21,7 @@ fn count_child(
     track: &mut Track,
     charge: Charge,
     highest: i64,
-    window: &mut Window,
+    histogram: &mut EnergyHistogram,
 )
     requires problem { track.old.problem ≡ problem.now }
     requires room { length track.old.prefix < problem.now.sites }
@@ -32,14 +32,14 @@ fn count_child(
         return;
     }
     track.push(problem, charge);
-    count_prefix(problem, track, highest, window);
+    count_prefix(problem, track, highest, histogram);
     track.pop(problem);
 }
 
 /// Counts the prefixes of the tree that begin with the prefix, each at the highest bound of its
 /// own prefixes.
 #[cycle(counts)]
-fn count_prefix(problem: &Problem, track: &mut Track, highest: i64, window: &mut Window)
+fn count_prefix(problem: &Problem, track: &mut Track, highest: i64, histogram: &mut EnergyHistogram)
     requires problem { track.old.problem ≡ problem.now }
     requires short { length track.old.prefix ≤ problem.now.sites }
     ensures kept { track.new ≡ track.old }
@@ -48,16 +48,16 @@ fn count_prefix(problem: &Problem, track: &mut Track, highest: i64, window: &mut
         return;
     }
     let highest = highest.max(track.low(problem));
-    if !window.holds(highest) {
+    if !histogram.holds(highest) {
         return;
     }
-    window.count(highest);
+    histogram.count(highest);
     if track.len() == problem.sites() {
         return;
     }
-    count_child(problem, track, Charge::Neg, highest, window);
-    count_child(problem, track, Charge::Neutral, highest, window);
-    count_child(problem, track, Charge::Pos, highest, window);
+    count_child(problem, track, Charge::Neg, highest, histogram);
+    count_child(problem, track, Charge::Neutral, highest, histogram);
+    count_child(problem, track, Charge::Pos, highest, histogram);
 }
 
 /// A threshold with few enough nodes, and a higher one with too many, as far as is known.
@@ -87,18 +87,18 @@ fn narrower(
     let size = end.saturating_sub(gap.above).unsigned_abs();
     let mut track = Track::new(alloc, problem)?;
     let room = limit.saturating_add(limit / 4);
-    let mut window = Window::new(alloc, gap.above, size, room)?;
-    count_prefix(problem, &mut track, gap.above, &mut window);
-    let passing = window.passing(limit);
-    let gap = if window.is_whole() {
+    let mut histogram = EnergyHistogram::new(alloc, gap.above, size, room)?;
+    count_prefix(problem, &mut track, gap.above, &mut histogram);
+    let passing = histogram.passing(limit);
+    let gap = if histogram.is_whole() {
         Gap {
             above: end,
             over: gap.over,
         }
     } else {
         Gap {
-            above: window.end(),
-            over: window.next_end(),
+            above: histogram.end(),
+            over: histogram.next_end(),
         }
     };
     Ok(Told { passing, gap })
@@ -106,16 +106,16 @@ fn narrower(
 
 /// Where the next pass begins, and how far the last one got.
 #[derive(Clone, Copy)]
-struct Reach {
+struct NextPass {
     gap: Gap,
     step: i64,
 }
 
-impl Reach {
+impl NextPass {
     /// The threshold up to which the next pass is made: the count of nodes grows mostly as fast from
     /// one pass to the next as from there on.
     fn end(&self) -> i64 {
-        let Reach { gap, step } = self;
+        let NextPass { gap, step } = self;
         if *step <= 0 {
             return gap.over;
         }
@@ -125,18 +125,23 @@ impl Reach {
     }
 
     /// The same after a pass that left this gap.
-    fn after(&self, gap: Gap) -> Reach {
+    fn after(&self, gap: Gap) -> NextPass {
         let step = gap.above.saturating_sub(self.gap.above);
-        Reach { gap, step }
+        NextPass { gap, step }
     }
 }
 
 /// Told by passes whose limits grow eightfold, so that each one knows from the one before how far it
 /// will get, and all of them together enter few nodes beside the last.
-fn first_reach(alloc: Global, problem: &Problem, limit: u64, over: i64) -> Result<Reach, Memory> {
+fn first_reach(
+    alloc: Global,
+    problem: &Problem,
+    limit: u64,
+    over: i64,
+) -> Result<NextPass, Memory> {
     let above = low(problem, &Charges::empty()).saturating_sub(1);
     let step = over.saturating_sub(above);
-    let mut reach = Reach {
+    let mut reach = NextPass {
         gap: Gap { above, over },
         step,
     };

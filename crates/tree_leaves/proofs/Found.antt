@@ -7,8 +7,8 @@ use Rattle.charge_model.specs.declared.charge.Charge.{Charge}
 use Rattle.charge_model.specs.declared.charge.Charge.TheVariants.{Neg, Neutral, Pos}
 use Rattle.charge_model.specs.Problem.{Problem}
 use Rattle.charge_model.specs.Tree.{is_node}
-use Rattle.tree_leaves.specs.declared.listing.Found.{Found}
-use Rattle.tree_leaves.specs.Visits.{IsVisited, AreChildrenVisited, IsKept}
+use Rattle.tree_leaves.specs.declared.listing.FoundLists.{FoundLists}
+use Rattle.tree_leaves.specs.Visits.{IsVisited, AreChildrenVisited, IsLeafKept}
 use Rattle.tree_leaves.proofs.Counts.{count_closed, count_full, count_node}
 use Rattle.tree_leaves.proofs.Branches.{leaves_closed, leaves_of_two, leaves_of_three}
 
@@ -20,7 +20,7 @@ pub where_within : {E : Type 0} (r : Result Bool E) (P Q : Type 0) → (P → Q)
 where_within (Ok w) P Q f h = λ e. f (h e)
 where_within (Err e) P Q f h = h
 
-pub visited_closed : (p : Problem) (o : Option ℤ) (q : List Charge) (old : Found) → is_node p o q ≡ false → IsVisited p o q old old
+pub visited_closed : (p : Problem) (o : Option ℤ) (q : List Charge) (old : FoundLists) → is_node p o q ≡ false → IsVisited p o q old old
 visited_closed p o q old closed = record {
   entered = omega (arith, count_closed p o q closed);
   more = [];
@@ -29,7 +29,7 @@ visited_closed p o q old closed = record {
 }
 
 -- a node with room: itself, and its children
-pub visited_node : (p : Problem) (o : Option ℤ) (q : List Charge) (old entered new : Found) → length q < p.sites → is_node p o q ≡ true
+pub visited_node : (p : Problem) (o : Option ℤ) (q : List Charge) (old entered new : FoundLists) → length q < p.sites → is_node p o q ≡ true
     → old.left ≡ entered.left + 1 → entered.lists.items ≡ old.lists.items → AreChildrenVisited p o q entered new → IsVisited p o q old new
 visited_node p o q old entered new room is one same children = record {
   entered = omega (arith, count_node p o q room is, children.entered);
@@ -39,8 +39,8 @@ visited_node p o q old entered new room is one same children = record {
 }
 
 -- a full prefix
-pub visited_leaf : (p : Problem) (o : Option ℤ) (q : List Charge) (old entered new : Found) → p.sites ≤ length q → is_node p o q ≡ true
-    → old.left ≡ entered.left + 1 → entered.lists.items ≡ old.lists.items → IsKept p o q entered new → IsVisited p o q old new
+pub visited_leaf : (p : Problem) (o : Option ℤ) (q : List Charge) (old entered new : FoundLists) → p.sites ≤ length q → is_node p o q ≡ true
+    → old.left ≡ entered.left + 1 → entered.lists.items ≡ old.lists.items → IsLeafKept p o q entered new → IsVisited p o q old new
 visited_leaf p o q old entered new full is one same kept = record {
   entered = omega (arith, count_full p o q full is, kept.left);
   more = kept.more;
@@ -48,7 +48,7 @@ visited_leaf p o q old entered new full is one same kept = record {
   leaves = kept.leaves;
 }
 
-pub children_two : (p : Problem) (o : Option ℤ) (q : List Charge) (a b c : Found) → p.base ≡ 2 → length q < p.sites
+pub children_two : (p : Problem) (o : Option ℤ) (q : List Charge) (a b c : FoundLists) → p.base ≡ 2 → length q < p.sites
     → IsVisited p o (q ++ Neg ∷ []) a b → IsVisited p o (q ++ Neutral ∷ []) b c → AreChildrenVisited p o q a c
 children_two p o q a b c two room first second = record {
   entered = rw (eq-eqb p.base 2 two) (omega (arith, first.entered, second.entered));
@@ -57,7 +57,7 @@ children_two p o q a b c two room first second = record {
   leaves = λ is. leaves_of_two p o q first.more second.more two room first.leaves second.leaves is;
 }
 
-pub children_three : (p : Problem) (o : Option ℤ) (q : List Charge) (a b c d : Found) → p.base ≢ 2 → length q < p.sites
+pub children_three : (p : Problem) (o : Option ℤ) (q : List Charge) (a b c d : FoundLists) → p.base ≢ 2 → length q < p.sites
     → IsVisited p o (q ++ Neg ∷ []) a b → IsVisited p o (q ++ Neutral ∷ []) b c → IsVisited p o (q ++ Pos ∷ []) c d → AreChildrenVisited p o q a d
 children_three p o q a b c d three room first second third = record {
   entered = rw (ne_eqb p.base 2 three) (omega (arith, first.entered, second.entered, third.entered));

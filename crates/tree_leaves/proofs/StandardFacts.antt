@@ -10,8 +10,8 @@ use Rattle.charge_model.specs.GroundList.{IsCandidate}
 use Rattle.charge_model.specs.Prefixes.{least_fixed, greatest_fixed, least_potential, greatest_potential, may_be_positive, can_be, least_known, greatest_known, site_low, pair_low, low}
 use Rattle.charge_model.specs.Tree.{IsInTree, is_open, is_node, node_count}
 use Rattle.tree_leaves.specs.Leaves.{AreLeaves}
-use Rattle.tree_leaves.specs.Answer.{IsListed, IsListedUnder}
-use Rattle.tree_leaves.specs.Subtree.{nodes_under, IsAtMost}
+use Rattle.tree_leaves.specs.Answer.{IsLeafList, IsListedUnder}
+use Rattle.tree_leaves.specs.Subtree.{nodes_under, IsThresholdAtMost}
 use Rattle.tree_leaves.proofs.Branches.{leaves_closed}
 
 -- a problem of so many sites without classes
@@ -44,7 +44,7 @@ pub no_site_nodes : node_count (sites_apart 0) None ≡ 1
 unfolding node_count is_node is_open
 no_site_nodes = refl
 
-lower_is_at_most : IsAtMost (Some (pos 1)) (Some (pos 2))
+lower_is_at_most : IsThresholdAtMost (Some (pos 1)) (Some (pos 2))
 lower_is_at_most = omega (arith, ints)
 
 -- no site has one list, the empty one
@@ -74,7 +74,7 @@ no_site_leaves = record {
     empty [] whole = refl
     empty (x ∷ c) whole = absurd (omega (arith, whole))
 
-no_site_listed : IsListed (sites_apart 0) None 1 (record { lists = [] ∷ []; nodes = 1 })
+no_site_listed : IsLeafList (sites_apart 0) None 1 (record { lists = [] ∷ []; nodes = 1 })
 no_site_listed = record { leaves = no_site_leaves; nodes = sym no_site_nodes; within = let one = no_site_nodes in omega (arith, one) }
 
 -- of one site nothing begins with a prefix that is no node

@@ -8,7 +8,7 @@ use Rattle.charge_model.specs.declared.charge.Charge.TheVariants.{Neg, Neutral, 
 use Rattle.charge_model.specs.Problem.{Problem}
 use Rattle.charge_model.specs.Prefixes.{low}
 use Rattle.charge_model.specs.Tree.{is_node, is_open, nodes_from}
-use Rattle.tree_leaves.specs.Subtree.{nodes_under, IsAtMost}
+use Rattle.tree_leaves.specs.Subtree.{nodes_under, IsThresholdAtMost}
 use Rattle.tree_leaves.proofs.Counts.{closed_from}
 
 both_true : (a b : Bool) → (a && b) ≡ true → (a ≡ true) × (b ≡ true)
@@ -25,7 +25,7 @@ le_more x a b h e = by (int_le x b) refl
     by true f = f
     by false f = absurd (omega (arith, ints, h, e, f))
 
-node_more : (p : Problem) (a b : Option ℤ) (q : List Charge) → IsAtMost a b → is_node p a q ≡ true → is_node p b q ≡ true
+node_more : (p : Problem) (a b : Option ℤ) (q : List Charge) → IsThresholdAtMost a b → is_node p a q ≡ true → is_node p b q ≡ true
 unfolding is_node
 node_more p None None q more h = h
 node_more p (Some x) None q more h = (both_true (is_open p q) (int_le (low p q) x) h).0
@@ -37,7 +37,7 @@ third : (b : Bool) (m n : ℕ) → m ≤ n → cond b 0 m ≤ cond b 0 n
 third true m n h = omega arith
 third false m n h = h
 
-from_more : (p : Problem) (a b : Option ℤ) (left : ℕ) (q : List Charge) → IsAtMost a b → nodes_from p a left q ≤ nodes_from p b left q
+from_more : (p : Problem) (a b : Option ℤ) (left : ℕ) (q : List Charge) → IsThresholdAtMost a b → nodes_from p a left q ≤ nodes_from p b left q
 from_more p a b zero q more = by (is_node p a q) refl
   where
     by : (x : Bool) → is_node p a q ≡ x → nodes_from p a 0 q ≤ nodes_from p b 0 q
@@ -51,6 +51,6 @@ from_more p a b (suc left) q more = by (is_node p a q) refl (from_more p a b lef
     by false e f g h = omega (arith, closed_from p a (suc left) q e)
     by true e f g h = let other = node_more p a b q more e in rw (e, other) (omega (arith, f, g, h))
 
-pub count_more : (p : Problem) (a b : Option ℤ) (q : List Charge) → IsAtMost a b → nodes_under p a q ≤ nodes_under p b q
+pub count_more : (p : Problem) (a b : Option ℤ) (q : List Charge) → IsThresholdAtMost a b → nodes_under p a q ≤ nodes_under p b q
 unfolding nodes_under
 count_more p a b q more = from_more p a b (p.sites - length q) q more

@@ -9,7 +9,7 @@ use Rattle.tree_leaves.specs.declared.leaf_list.LeavesAnswer.{LeavesAnswer}
 use Rattle.tree_leaves.specs.declared.leaf_list.LeavesAnswer.TheVariants.{Lists, Budget, Memory}
 
 -- the leaves of the tree under a threshold, with its count of nodes, which keeps the limit
-pub record IsListed (p : Problem) (bound : Option ℤ) (limit : ℕ) (l : Leaves) : Type 0 where
+pub record IsLeafList (p : Problem) (bound : Option ℤ) (limit : ℕ) (l : Leaves) : Type 0 where
   pub leaves : AreLeaves p bound l.lists
   pub nodes : l.nodes ≡ node_count p bound
   pub within : node_count p bound ≤ limit
@@ -23,6 +23,6 @@ pub record IsListedUnder (p : Problem) (threshold : Option ℤ) (prefix : List C
 
 -- the leaves, or that the tree has more nodes than the limit
 abbrev pub IsLeavesAnswer : Problem → Option ℤ → ℕ → LeavesAnswer → Type 0
-IsLeavesAnswer p bound limit (Lists l) = IsListed p bound limit l
+IsLeavesAnswer p bound limit (Lists l) = IsLeafList p bound limit l
 IsLeavesAnswer p bound limit Budget = limit < node_count p bound
 IsLeavesAnswer p bound limit Memory = Unit {0}

@@ -23,10 +23,10 @@ nodes_beyond p threshold prefix = nodes_under p threshold (prefix ++ Neg ∷ [])
     + (if p.base == 2 then 0 else nodes_under p threshold (prefix ++ Pos ∷ [])))
 
 -- the one threshold is at most the other, none being above all
-abbrev pub IsAtMost : Option ℤ → Option ℤ → Type 0
-IsAtMost a None = Unit {0}
-IsAtMost None (Some y) = ⊥
-IsAtMost (Some x) (Some y) = x ≤ℤ y
+abbrev pub IsThresholdAtMost : Option ℤ → Option ℤ → Type 0
+IsThresholdAtMost a None = Unit {0}
+IsThresholdAtMost None (Some y) = ⊥
+IsThresholdAtMost (Some x) (Some y) = x ≤ℤ y
 
 -- each prefix is a node, from this one on to this one with these charges after it
 abbrev pub IsPath : Problem → Option ℤ → List Charge → List Charge → Type 0

@@ -3,7 +3,7 @@ ghost use Rattle.std.specs.Prelude.{◌≡◌, ◌+◌, ◌<◌, ◌≤◌, ℤ,
 ghost use Rattle.charge_model.specs.declared.charge.Charge.{Charge};
 ghost use Rattle.charge_model.specs.Problem.{Problem};
 ghost use Rattle.charge_model.specs.Tree.{is_node, node_count};
-ghost use Rattle.tree_leaves.specs.Subtree.{nodes_under, nodes_beyond, IsAtMost};
+ghost use Rattle.tree_leaves.specs.Subtree.{nodes_under, nodes_beyond, IsThresholdAtMost};
 
 /// No member begins with a prefix that is no node, one with a node that has all its charges, and
 /// with another node itself and those with one charge more. All begin with the empty prefix.
@@ -24,6 +24,6 @@ pub fn nodes_count_their_children()
 /// A higher threshold has no fewer members.
 #[tactic(auto, using(crate::proofs::Thresholds::count_more))]
 pub fn higher_thresholds_have_no_fewer_nodes()
-    ensures { (p : Problem) (a b : Option ℤ) (prefix : List Charge) → IsAtMost a b
+    ensures { (p : Problem) (a b : Option ℤ) (prefix : List Charge) → IsThresholdAtMost a b
         → nodes_under p a prefix ≤ nodes_under p b prefix }
 {}

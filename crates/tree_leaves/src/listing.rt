@@ -3,9 +3,9 @@ ghost use Rattle.charge_model.specs.declared.charge.Charge.TheVariants.{Pos};
 ghost use Rattle.charge_model.specs.Rules.{IsChargeList};
 ghost use Rattle.charge_model.specs.Tree.{is_node, node_count};
 ghost use Rattle.sidb_units.specs.declared.TheConstants.{MAX_NODES};
-ghost use Rattle.tree_leaves.specs.Answer.{IsListed, IsListedUnder, IsLeavesAnswer};
+ghost use Rattle.tree_leaves.specs.Answer.{IsLeafList, IsListedUnder, IsLeavesAnswer};
 ghost use Rattle.tree_leaves.specs.Subtree.{IsPrefix, nodes_under, nodes_beyond};
-ghost use Rattle.tree_leaves.specs.Visits.{IsVisited, AreChildrenVisited, IsKept};
+ghost use Rattle.tree_leaves.specs.Visits.{IsVisited, AreChildrenVisited, IsLeafKept};
 
 use crate::leaf_list::{LeafList, LeavesAnswer};
 use charge_state::{Charge, Charges};
@@ -18,7 +18,7 @@ use std::alloc::Global;
 
 /// The lists found so far, and how many more prefixes may be entered.
 #[derive(Drop)]
-pub struct Found {
+pub struct FoundLists {
     pub lists: Vec<Charges>,
     pub left: u64,
 }
@@ -29,12 +29,13 @@ fn keep_leaf(
     problem: &Problem,
     threshold: Option<i64>,
     track: &Track,
-    found: &mut Found,
+    found: &mut FoundLists,
 ) -> Result<(), Memory>
     requires problem { track.now.problem ≡ problem.now }
     requires full { IsChargeList problem.now track.now.prefix }
     requires node { IsTrue (is_node problem.now threshold track.now.prefix) }
-    ensures { IfOk result (λ _. IsKept problem.now threshold track.now.prefix found.old found.new) }
+    ensures { IfOk result (λ _. IsLeafKept problem.now threshold track.now.prefix found.old
+        found.new) }
 {
     let possible = is_possible(alloc, problem, track)?;
     if possible {
@@ -51,7 +52,7 @@ fn visit_child(
     threshold: Option<i64>,
     track: &mut Track,
     charge: Charge,
-    found: &mut Found,
+    found: &mut FoundLists,
 ) -> Result<bool, Memory>
     requires problem { track.old.problem ≡ problem.now }
     requires prefix { IsPrefix problem.now track.old.prefix }
@@ -83,7 +84,7 @@ fn visit_children(
     problem: &Problem,
     threshold: Option<i64>,
     track: &mut Track,
-    found: &mut Found,
+    found: &mut FoundLists,
 ) -> Result<bool, Memory>
     requires problem { track.old.problem ≡ problem.now }
     requires prefix { IsPrefix problem.now track.old.prefix }
@@ -114,7 +115,7 @@ fn visit(
     problem: &Problem,
     threshold: Option<i64>,
     track: &mut Track,
-    found: &mut Found,
+    found: &mut FoundLists,
 ) -> Result<bool, Memory>
     requires problem { track.old.problem ≡ problem.now }
     requires prefix { IsPrefix problem.now track.old.prefix }
@@ -157,7 +158,7 @@ fn visit_prefix(
     problem: &Problem,
     threshold: Option<i64>,
     prefix: &Charges,
-    found: &mut Found,
+    found: &mut FoundLists,
 ) -> Result<bool, Memory>
     requires { IsPrefix problem.now prefix.now }
     ensures within { IfOk result (λ within. IsTrue within
@@ -185,7 +186,7 @@ pub fn leaves_under(
         (limit < nodes_under problem.now threshold prefix.now)
         (IsListedUnder problem.now threshold prefix.now limit)) }
 {
-    let mut found = Found {
+    let mut found = FoundLists {
         lists: Vec::new(alloc),
         left: limit,
     };
@@ -206,7 +207,7 @@ fn leaves_within(
     limit: u64,
 ) -> Result<Option<LeafList>, Memory>
     ensures { IfOk result (λ o. MatchOption o (limit < node_count problem.now bound)
-        (IsListed problem.now bound limit)) }
+        (IsLeafList problem.now bound limit)) }
 {
     nodes_are_tested();
     leaves_under(alloc, problem, bound, &Charges::empty(), limit)

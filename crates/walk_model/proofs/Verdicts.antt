@@ -19,10 +19,10 @@ use Rattle.certificate_model.specs.declared.refusal.CloseWhy.{CloseWhy}
 use Rattle.certificate_model.specs.declared.refusal.CloseWhy.TheVariants.{Shape, Number, PopulationHolds}
 use Rattle.certificate_model.specs.declared.refusal.CertRefusal.{CertRefusal}
 use Rattle.certificate_model.specs.declared.refusal.CertRefusal.TheVariants.{Entry, Close, Short, Long, Memory}
-use Rattle.certificate_model.specs.Tokens.{IsClosedSite, NeverHolds, LiesBelow, Passes, FailsFirst}
+use Rattle.certificate_model.specs.Tokens.{IsClosedSite, NeverHoldsInequality, LiesBelow, Passes, FailsFirst}
 use Rattle.certificate_model.specs.Trails.{IsTrail, place_after}
 use Rattle.certificate_model.specs.Entries.{EntryMeets, EntryPasses, AreSoundEntries, EntryFailsFirst, entry_order_of}
-use Rattle.certificate_model.specs.Certificates.{FitsProblem, IsSound, IsRefusal, IsTokensRefusal}
+use Rattle.certificate_model.specs.Certificates.{FitsProblem, IsSound, IsCertificateRefusal, IsTokensRefusal}
 use Rattle.certificate_model.proofs.Passing.{node_passes, site_passes, energy_passes, listed_passes, hop_passes, beaten_passes}
 use Rattle.certificate_model.proofs.Failing.{fails_shape, fails_number, fails_site, fails_certain, fails_above, fails_list, fails_population, fails_hop, fails_beaten}
 use Rattle.walk_model.specs.Walks.{BreaksAt}
@@ -80,7 +80,7 @@ module _ (p : Problem) (window : ℤ) (es : List Marked) (laws : AreVerdictLaws 
   hop_tested : (prefix : List Charge) (i j : ℕ) → length prefix ≡ p.sites → Tested prefix (Hop i j)
   hop_tested prefix i j full = by (of_list_decided p prefix (by_hop i j)) (never_decided p prefix (by_hop i j) laws.laws)
     where
-      by : Decided (IsInequalityOf p prefix (by_hop i j)) → Decided (NeverHolds p prefix (by_hop i j)) → Tested prefix (Hop i j)
+      by : Decided (IsInequalityOf p prefix (by_hop i j)) → Decided (NeverHoldsInequality p prefix (by_hop i j)) → Tested prefix (Hop i j)
       by (inr none) never = inr (Number, fails_number p window ls prefix (Hop i j) full none)
       by (inl hop) (inr not) = inr (_, fails_hop p window ls prefix i j full hop not)
       by (inl hop) (inl never) = inl (hop_passes p window ls prefix i j full never)
@@ -241,17 +241,17 @@ module _ (p : Problem) (window : ℤ) (es : List Marked) (laws : AreVerdictLaws 
       by (inr fails) = absurd (not fails)
 
   -- a refusal of tokens after sound entries
-  as_refusal : (tokens : List Token) (r : CertRefusal) → AreSoundEntries p window es → IsTokensRefusal p window ls tokens r → IsRefusal p window es tokens r
+  as_refusal : (tokens : List Token) (r : CertRefusal) → AreSoundEntries p window es → IsTokensRefusal p window ls tokens r → IsCertificateRefusal p window es tokens r
   as_refusal tokens (Entry j why) sound none = absurd none
   as_refusal tokens (Close k why) sound refused = (sound, refused)
   as_refusal tokens Short sound refused = (sound, refused)
   as_refusal tokens Long sound refused = (sound, refused)
   as_refusal tokens Memory sound none = absurd none
 
-  pub verdict : (tokens : List Token) → IsSound p window es tokens ⊎ ((r : CertRefusal) × IsRefusal p window es tokens r)
+  pub verdict : (tokens : List Token) → IsSound p window es tokens ⊎ ((r : CertRefusal) × IsCertificateRefusal p window es tokens r)
   verdict tokens = by (first_below (length es) Fails fails_or_not)
     where
-      by : First (length es) Fails ⊎ NoneBelow (length es) Fails → IsSound p window es tokens ⊎ ((r : CertRefusal) × IsRefusal p window es tokens r)
+      by : First (length es) Fails ⊎ NoneBelow (length es) Fails → IsSound p window es tokens ⊎ ((r : CertRefusal) × IsCertificateRefusal p window es tokens r)
       by (inl some) = inr (
         Entry some.place some.holds.0,
         record {
@@ -266,6 +266,6 @@ module _ (p : Problem) (window : ℤ) (es : List Marked) (laws : AreVerdictLaws 
           sound : AreSoundEntries p window es
           sound j within = passes_at j within (none j within)
 
-          at : Answered tokens → IsSound p window es tokens ⊎ ((r : CertRefusal) × IsRefusal p window es tokens r)
+          at : Answered tokens → IsSound p window es tokens ⊎ ((r : CertRefusal) × IsCertificateRefusal p window es tokens r)
           at (inl whole) = inl (record { entries = sound; whole = whole })
           at (inr (r, refused)) = inr (r, as_refusal tokens r sound refused)

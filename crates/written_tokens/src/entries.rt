@@ -3,7 +3,7 @@ ghost use Rattle.charge_model.specs.GroundList.{lists_of};
 ghost use Rattle.window_model.specs.Windows.{IsWindowList};
 ghost use Rattle.written_tokens.specs.Listing.{AreEntriesOf};
 
-use crate::steps::{Step, all_steps};
+use crate::steps::{EntryStep, all_steps};
 use entry_facts::{EntryFacts, all_facts};
 use ground_entries::GroundList;
 use potential_problem::Problem;
@@ -16,7 +16,7 @@ use window_model::Window;
 #[derive(Drop)]
 pub struct Entries {
     pub facts: Vec<EntryFacts>,
-    pub steps: Vec<Step>,
+    pub steps: Vec<EntryStep>,
 }
 
 /// What is known of the entries of a window list.

@@ -3,14 +3,14 @@ ghost use Rattle.std.specs.Prelude.{◌≡◌, ◌<◌, ◌↔◌, length, IsTru
 ghost use Rattle.sidb_layout.specs.Site.{IsInRange};
 ghost use Rattle.sqd_layout.specs.SitesLines.{place_in};
 ghost use Rattle.sqd_layout.specs.SitesFaults.{IsLineInRange, AreLinesInRange, HasNoClash, IsEarliestClash, IsFirstClash};
-ghost use Rattle.sqd_layout.specs.SitesClash.{Clashes, NoneBefore};
+ghost use Rattle.sqd_layout.specs.SitesClash.{ClashRelation, NoLineBefore};
 
 use super::line::SitesLine;
 use sidb_layout::{LEAST_SQUARED_DISTANCE, Lattice, Site, squared_distance_on};
 
 /// How the places of two lines may clash: by being the same, or by lying too close on a lattice.
 #[derive(Clone, Copy)]
-pub enum Clash {
+pub enum LineClash {
     Same,
     Close(Lattice),
 }
@@ -29,24 +29,24 @@ fn place_of(line: &SitesLine) -> Option<Site>
 }
 
 /// Whether two places clash.
-fn clashes(clash: Clash, a: Site, b: Site) -> bool
+fn clashes(clash: LineClash, a: Site, b: Site) -> bool
     requires a { IsInRange a }
     requires b { IsInRange b }
-    ensures { IsTrue result ↔ Clashes clash a b }
+    ensures { IsTrue result ↔ ClashRelation clash a b }
 {
     match clash {
-        Clash::Same => a == b,
-        Clash::Close(lattice) => {
+        LineClash::Same => a == b,
+        LineClash::Close(lattice) => {
             squared_distance_on(&lattice, a, b) < LEAST_SQUARED_DISTANCE as i64
         }
     }
 }
 
 /// Whether the place of the line, if it has one, clashes with this place.
-fn has_clash(clash: Clash, line: &SitesLine, place: Site) -> bool
+fn has_clash(clash: LineClash, line: &SitesLine, place: Site) -> bool
     requires line { IsLineInRange line.now }
     requires place { IsInRange place }
-    ensures { IsTrue result ↔ IsSomeAnd (place_in line.now) (λ a. Clashes clash a place) }
+    ensures { IsTrue result ↔ IsSomeAnd (place_in line.now) (λ a. ClashRelation clash a place) }
 {
     match place_of(line) {
         Some(other) => clashes(clash, other, place),
@@ -55,11 +55,11 @@ fn has_clash(clash: Clash, line: &SitesLine, place: Site) -> bool
 }
 
 /// The earliest line before line `j` whose place clashes with the place on line `j`.
-fn earliest_before(clash: Clash, lines: &[SitesLine], j: usize) -> Option<usize>
+fn earliest_before(clash: LineClash, lines: &[SitesLine], j: usize) -> Option<usize>
     requires ranges { AreLinesInRange lines.now }
     requires within { j < length lines.now }
-    ensures { MatchOption result (NoneBefore clash lines.now j)
-        (λ i. IsEarliestClash (Clashes clash) lines.now i j) }
+    ensures { MatchOption result (NoLineBefore clash lines.now j)
+        (λ i. IsEarliestClash (ClashRelation clash) lines.now i j) }
 {
     let Some(place) = place_of(&lines[j]) else {
         return None;
@@ -73,10 +73,10 @@ fn earliest_before(clash: Clash, lines: &[SitesLine], j: usize) -> Option<usize>
 }
 
 /// The first line whose place clashes with an earlier one, behind the earliest such line.
-pub fn first_clash(clash: Clash, lines: &[SitesLine]) -> Option<(usize, usize)>
+pub fn first_clash(clash: LineClash, lines: &[SitesLine]) -> Option<(usize, usize)>
     requires { AreLinesInRange lines.now }
-    ensures { MatchOption result (HasNoClash (Clashes clash) lines.now)
-        (λ pair. IsFirstClash (Clashes clash) lines.now pair.0 pair.1) }
+    ensures { MatchOption result (HasNoClash (ClashRelation clash) lines.now)
+        (λ pair. IsFirstClash (ClashRelation clash) lines.now pair.0 pair.1) }
 {
     for j in 0..lines.len() {
         if let Some(i) = earliest_before(clash, lines, j) {

@@ -3,7 +3,7 @@ ghost use Rattle.std.specs.Prelude.{◌≡◌, ◌⊎◌, ◌+◌, ◌++◌, ◌
 ghost use Rattle.std.specs.List.{list_any};
 ghost use Rattle.sqd_scan.specs.declared.fault.SqdFault.TheVariants.{Memory as OutOfMemory, BadLine as WrongLine};
 ghost use Rattle.sqd_layout.specs.SitesLines.{line_in, lines_in, is_lattice as is_lattice_line};
-ghost use Rattle.sqd_layout.specs.SitesFaults.{AreFine, IsSitesFault};
+ghost use Rattle.sqd_layout.specs.SitesFaults.{AreFineSitesLines, IsSitesFault};
 
 use super::line::SitesLine;
 use super::line_reader::line_of;
@@ -33,12 +33,12 @@ fn checked_line(
     number: u64,
     bytes: &[u8],
 ) -> Result<SitesLine, SqdFault>
-    requires fine { AreFine (map Some before.now) }
+    requires fine { AreFineSitesLines (map Some before.now) }
     ensures line { IfOk result (λ line. line_in bytes.now ≡ Some line) }
-    ensures fine { IfOk result (λ line. AreFine (map Some before.now ++ Some line ∷ [])) }
+    ensures fine { IfOk result (λ line. AreFineSitesLines (map Some before.now ++ Some line ∷ [])) }
     ensures fault { IfErr result (λ fault. (fault ≡ OutOfMemory)
         ⊎ ((fault ≡ WrongLine number)
-        × (¬ AreFine (map Some before.now ++ line_in bytes.now ∷ [])))) }
+        × (¬ AreFineSitesLines (map Some before.now ++ line_in bytes.now ∷ [])))) }
 {
     let row = words_in(alloc, without_return(bytes))?;
     let Some(line) = line_of(&row) else {
@@ -52,13 +52,13 @@ fn checked_line(
 
 /// Adds the line of these bytes.
 fn push_line(alloc: Global, lines: &mut Vec<SitesLine>, bytes: &[u8]) -> Result<(), SqdFault>
-    requires fine { AreFine (map Some lines.old.items) }
-    ensures fine { OnOk result (AreFine (map Some lines.new.items)) }
+    requires fine { AreFineSitesLines (map Some lines.old.items) }
+    ensures fine { OnOk result (AreFineSitesLines (map Some lines.new.items)) }
     ensures line { OnOk result
         (map Some lines.new.items ≡ map Some lines.old.items ++ line_in bytes.now ∷ []) }
     ensures fault { IfErr result (λ fault. (fault ≡ OutOfMemory)
         ⊎ ((fault ≡ WrongLine (length lines.old.items + 1))
-        × (¬ AreFine (map Some lines.old.items ++ line_in bytes.now ∷ [])))) }
+        × (¬ AreFineSitesLines (map Some lines.old.items ++ line_in bytes.now ∷ [])))) }
 {
     let number = lines.len() as u64 + 1;
     let line = checked_line(alloc, lines, number, bytes)?;
@@ -69,7 +69,7 @@ fn push_line(alloc: Global, lines: &mut Vec<SitesLine>, bytes: &[u8]) -> Result<
 /// All lines of the text, or the first that is none, or is a second line `lattice`.
 pub fn read_lines(alloc: Global, text: &[u8]) -> Result<Vec<SitesLine>, SqdFault>
     ensures lines { IfOk result (λ lines. lines_in text.now ≡ map Some lines.items) }
-    ensures fine { IfOk result (λ lines. AreFine (map Some lines.items)) }
+    ensures fine { IfOk result (λ lines. AreFineSitesLines (map Some lines.items)) }
     ensures fault { IfErr result (λ fault. (fault ≡ OutOfMemory) ⊎ IsSitesFault text.now fault) }
 {
     let mut lines = Vec::new(alloc);

@@ -1,12 +1,12 @@
 // The layout of a sites text.
 ghost use Rattle.std.specs.Prelude.{◌≡◌, ◌⊎◌, length, MatchOption, IfOk, IfErr};
 ghost use Rattle.sidb_layout.specs.declared.fault.LayoutFault.{LayoutFault as LayoutRefusal};
-ghost use Rattle.sidb_layout.specs.Refusal.{IsMadeOf, IsRefusal};
+ghost use Rattle.sidb_layout.specs.Refusal.{IsMadeOf, IsLayoutRefusal};
 ghost use Rattle.sqd_scan.specs.declared.fault.SqdFault.TheVariants.{Memory as OutOfMemory};
-ghost use Rattle.sqd_layout.specs.SitesLines.{site_in, fix_in, sites_of, fixes_of};
+ghost use Rattle.sqd_layout.specs.SitesLines.{site_on_line, fix_in, sites_in_lines, fixes_of};
 ghost use Rattle.sqd_layout.specs.SitesFaults.{AreLinesInRange, IsLatticeOf, IsClear, IsLinesFault, IsLayoutOf, IsSitesText, IsSitesFault};
 
-use super::clashes::{Clash, first_clash};
+use super::clashes::{LineClash, first_clash};
 use super::line::SitesLine;
 use super::lines::read_lines;
 use super::ranges::{first_out, lattice_in};
@@ -19,7 +19,7 @@ use std::alloc::{AllocError, Global};
 
 /// The site of the line.
 fn site_of(line: &SitesLine) -> Option<Site>
-    ensures { result ≡ site_in line.now }
+    ensures { result ≡ site_on_line line.now }
 {
     match line {
         SitesLine::Place(site) => Some(*site),
@@ -39,7 +39,7 @@ fn fix_of(line: &SitesLine) -> Option<Fix>
 
 /// The sites of the lines.
 fn sites_in(alloc: Global, lines: &[SitesLine]) -> Result<Vec<Site>, AllocError>
-    ensures { IfOk result (λ sites. sites.items ≡ sites_of lines.now) }
+    ensures { IfOk result (λ sites. sites.items ≡ sites_in_lines lines.now) }
 {
     lines.iter().filter_map(|line| site_of(line)).collect(alloc)
 }
@@ -55,7 +55,7 @@ fn fixes_in(alloc: Global, lines: &[SitesLine]) -> Result<Vec<Fix>, AllocError>
 fn fault_of(lattice: Lattice, lines: &[SitesLine], sites: usize, fixes: usize) -> Option<SqdFault>
     requires in_range { AreLinesInRange lines.now }
     requires lattice { IsLatticeOf lines.now lattice }
-    requires sites { sites ≡ length (sites_of lines.now) }
+    requires sites { sites ≡ length (sites_in_lines lines.now) }
     requires fixes { fixes ≡ length (fixes_of lines.now) }
     ensures { MatchOption result (IsClear lattice lines.now) (IsLinesFault lines.now) }
 {
@@ -65,10 +65,10 @@ fn fault_of(lattice: Lattice, lines: &[SitesLine], sites: usize, fixes: usize) -
     if fixes > MAX_FIXED {
         return Some(SqdFault::TooManyFixes);
     }
-    if let Some((i, j)) = first_clash(Clash::Same, lines) {
+    if let Some((i, j)) = first_clash(LineClash::Same, lines) {
         return Some(SqdFault::Duplicate(i as u64 + 1, j as u64 + 1));
     }
-    match first_clash(Clash::Close(lattice), lines) {
+    match first_clash(LineClash::Close(lattice), lines) {
         None => None,
         Some((i, j)) => Some(SqdFault::TooClose(i as u64 + 1, j as u64 + 1)),
     }
@@ -81,7 +81,7 @@ fn unrefused_layout(
     sites: &[Site],
     fixes: &[Fix],
 ) -> Result<Layout, SqdFault>
-    requires { (refusal : LayoutRefusal) → ¬ IsRefusal lattice sites.now fixes.now refusal }
+    requires { (refusal : LayoutRefusal) → ¬ IsLayoutRefusal lattice sites.now fixes.now refusal }
     ensures layout { IfOk result (IsMadeOf lattice sites.now fixes.now) }
     ensures only_memory { IfErr result (λ fault. fault ≡ OutOfMemory) }
 {

@@ -1,7 +1,7 @@
 use Rattle.std.proofs.Common.{◌≡◌, ◌∙◌, [], ◌∷◌, length, ap, sym, append_assoc, append-nil, arith}
 use Rattle.std.specs.Vec.Iter.{into_iter_items}
 use Rattle.std.proofs.lemmas.List.{length-map, length-append}
-use Rattle.candidate_marks.specs.Candidates.{charges_of}
+use Rattle.candidate_marks.specs.Candidates.{lists_of_candidates}
 use Rattle.candidate_marks.proofs.Keeping.{kept_all}
 use Rattle.candidate_marks.proofs.CandidateLemmas.{all_of}
 use Rattle.candidate_marks.proofs.Filtering.{nothing_left, gone_on}
@@ -35,5 +35,5 @@ returns-clause-within c =
     let whole = ap length (sym (append-nil at.yielded) ∙ rw empty at old.parts) in
     let many = length-map c.args.all.items (λ y. y.charges) in
     let place = old.place in
-    kept_all c.args._problem.now c.args._window.now.width (charges_of c.args.all.items) (charges_of at.list.items) at.k (all_of _ _ c.args.all.items c.requires.all)
+    kept_all c.args._problem.now c.args._window.now.width (lists_of_candidates c.args.all.items) (lists_of_candidates at.list.items) at.k (all_of _ _ c.args.all.items c.requires.all)
     old.gone.kept (omega (arith, whole, many, place))

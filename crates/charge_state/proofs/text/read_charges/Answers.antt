@@ -1,6 +1,6 @@
 use Rattle.std.proofs.Common.{◌≡◌, Ok, Err, arith, subst, sym, length}
 use Rattle.charge_state.specs.declared.text.ChargeFault.TheVariants.{BadByte}
-use Rattle.charge_state.specs.Text.{Reads}
+use Rattle.charge_state.specs.Text.{ReadsCharges}
 use Rattle.charge_state.proofs.Readings.{reading_says, empty_breaks, point_breaks, point_reads}
 use Rattle.charge_state.proofs.text.read_charges.Goals as goal
 
@@ -24,5 +24,5 @@ pub returns : goal.returns
 returns c =
     let one : length c.args.text.now ≡ 1 = grind arith in
     let reads = point_reads c.args.text.now one c.if-text-ne-POINT.false in
-    let says = reading_says c.args.text.now (Ok c.empty.result) (subst (Reads c.args.text.now) (sym c.empty.ensures) reads) in
+    let says = reading_says c.args.text.now (Ok c.empty.result) (subst (ReadsCharges c.args.text.now) (sym c.empty.ensures) reads) in
     record { read = says.read; bad_byte = says.bad_byte; too_long = says.too_long }

@@ -3,8 +3,8 @@ use Rattle.std.proofs.lemmas.Bool.{false≢true}
 use Rattle.std.proofs.lemmas.List.Elements.{AllWithin-more, at_read}
 use Rattle.charge_model.specs.Rules.{Beats}
 use Rattle.level_range_laws.specs.Levels.{at_level}
-use Rattle.level_candidates.specs.declared.candidate.Candidate.{Candidate}
-use Rattle.level_candidates.specs.Candidates.{charges_of}
+use Rattle.level_candidates.specs.declared.candidate.LevelCandidate.{LevelCandidate}
+use Rattle.level_candidates.specs.Candidates.{lists_of_level_candidates}
 use Rattle.level_range.proofs.Listing.{IsSetting, measured_at, possible_in, listed_of, listed_when, beats_here, beaten_never, not_lower_never, unbeaten, charges_at}
 use Rattle.level_range.proofs.answers.is_listed_at.Goals as goal
 use Rattle.level_range.proofs.answers.is_listed_at.Goals.{else-includes-via-then-includes+in_ok-is_lower+else-branch, else-includes-via-else-includes}
@@ -44,10 +44,10 @@ loop-i-preserved c =
     let m = c.args.level.value in
     let x = c.index-all-k.result in
     let w = c.index-all-i.result in
-    let own = get_or (charges_of xs) c.args.k [] in
+    let own = get_or (lists_of_level_candidates xs) c.args.k [] in
     let within : c.loop-i.i < length xs = omega arith in
     let measured = measured_at p levels xs c.loop-i.i w c.requires.all within c.index-all-i.is in
-    let P = λ (y : Candidate). Beats (at_level p m) y.charges own → ⊥ in
+    let P = λ (y : LevelCandidate). Beats (at_level p m) y.charges own → ⊥ in
     let here : Beats (at_level p m) w.charges own → ⊥ = elim c.else-includes.branch [
       | else-includes-via-then-includes+in_ok-is_lower+else-branch v ↦ λ h. not_lower_never p m w x.charges v.in_ok-is_lower.field-0 v.in_ok-is_lower.ensures v.if-branch.false
           (subst (Beats (at_level p m) w.charges) (charges_at xs c.args.k x c.requires.place c.index-all-k.is []) h)
@@ -62,7 +62,7 @@ returns c =
     let xs = c.args.all.now in
     let m = c.args.level.value in
     let x = c.index-all-k.result in
-    let own = get_or (charges_of xs) c.args.k [] in
+    let own = get_or (lists_of_level_candidates xs) c.args.k [] in
     let same = charges_at xs c.args.k x c.requires.place c.index-all-k.is [] in
     let set : IsSetting p levels xs m = record { tables = c.problems_have_tables.ensures p c.sites-known.ensures.valid; all = c.requires.all; inside = c.requires.level } in
     let end : length xs ≤ c.loop-i.i = omega arith in (

@@ -1,7 +1,7 @@
 use Rattle.std.proofs.Common.{arith, ◌∙◌, ℕ, ◌^◌, ◌<◌, ◌≤◌, ap}
 use Rattle.std.proofs.lemmas.Int.{ints}
 use Rattle.std.proofs.lemmas.Nat.{pow_pos}
-use Rattle.screened_coulomb.specs.Rounding.{argument_down_of, hi_of, lo_of}
+use Rattle.screened_coulomb.specs.Rounding.{argument_down_of, rounded_hi, rounded_lo}
 use Rattle.screened_coulomb.proofs.SizeLemmas.{argument_down_bound, argument_up_small, quotient_up_small, quotients_in_order, ends_in_order}
 use Rattle.screened_coulomb.proofs.HoldLemmas.{high_holds, low_holds, span_holds}
 use Rattle.screened_coulomb.proofs.rounding.near_span.Goals as goal
@@ -30,8 +30,8 @@ returns-clause-holds c = λ d of_root.
     let root = c.args.root in
     let sums = c.exp_sums-sums.result in
     let sized = c.exp_sums-sums.ensures.within in
-    let lo = c.lower_end-lo.ensures.value ∙ ap (λ (q : ℕ). lo_of q sums.f sums.up) c.quotient_down.ensures.value in
-    let hi = c.upper_end-hi.ensures.value ∙ ap (λ (q : ℕ). hi_of q sums.f sums.down) c.quotient_up.ensures.value in
+    let lo = c.lower_end-lo.ensures.value ∙ ap (λ (q : ℕ). rounded_lo q sums.f sums.up) c.quotient_down.ensures.value in
+    let hi = c.upper_end-hi.ensures.value ∙ ap (λ (q : ℕ). rounded_hi q sums.f sums.down) c.quotient_up.ensures.value in
     let down_is = c.argument_down.ensures.value in
     let up_is = c.argument_up.ensures.value in
     let low = low_holds p d root sums.f sums.down sums.up c.requires.least of_root sized c.lower_end-lo.result (argument_up_small p root c.requires.near)

@@ -1,13 +1,13 @@
 use Rattle.std.proofs.Common.{◌≡◌, ◌+◌, ◌*◌, ◌^◌, ◌<◌, ◌≤◌, FitsSigned, w64, refl, arith, ◌∙◌}
 use Rattle.std.proofs.lemmas.Int.{to_z-of_z, to_z_pos, fits_signed_from_abs}
-use Rattle.sidb_layout.specs.Lattice.{squared_distance, x_of, y_of, gap_of}
+use Rattle.sidb_layout.specs.Lattice.{squared_distance, x_of, y_of, distance_along}
 use Rattle.sidb_layout.proofs.Positions.{gap_read, gap_within, square_within}
 use Rattle.sidb_layout.proofs.geometry.squared_distance_on.Goals as goal
 
 -- the code's gaps are those of the positions, and their squares are small
 record Gaps (c : goal.After-abs_diff-y_gap) : Type 0 where
-  x : c.abs_diff-x_gap.result ≡ gap_of (x_of c.args.lattice.now c.args.a) (x_of c.args.lattice.now c.args.b)
-  y : c.abs_diff-y_gap.result ≡ gap_of (y_of c.args.lattice.now c.args.a) (y_of c.args.lattice.now c.args.b)
+  x : c.abs_diff-x_gap.result ≡ distance_along (x_of c.args.lattice.now c.args.a) (x_of c.args.lattice.now c.args.b)
+  y : c.abs_diff-y_gap.result ≡ distance_along (y_of c.args.lattice.now c.args.a) (y_of c.args.lattice.now c.args.b)
   x_small : c.abs_diff-x_gap.result * c.abs_diff-x_gap.result ≤ 64012800640000
   y_small : c.abs_diff-y_gap.result * c.abs_diff-y_gap.result ≤ 64012800640000
 

@@ -1,6 +1,6 @@
 use Rattle.std.proofs.Common.{◌≡◌, ◌∙◌, ℕ, ◌+◌, ◌-◌, ◌*◌, ◌^◌, ◌<◌, ◌≤◌, ◌⊎◌, length, take, drop, min, fold, sym, ap, IfSome, IfNone, List, pos, ◌<ℤ◌, length-drop, arith, rules, inl, inr}
 use Rattle.std.proofs.lemmas.Int.{ints}
-use Rattle.sidb_units.specs.Decimal.{HasFault, IsReadAs, digits_of, next_digit, places_of}
+use Rattle.sidb_units.specs.Decimal.{HasDecimalFault, IsReadAs, digits_of, next_digit, places_after_point}
 use Rattle.sidb_units.specs.Numeral.{IsNumeral}
 use Rattle.sidb_units.specs.declared.decimal_fault.DecFault.TheVariants.{OutOfRange}
 use Rattle.std.specs.Str.Parse.{digits_value}
@@ -28,9 +28,9 @@ returns c =
     let first : c.more_digits.result ≡ min (fold next_digit 0 (take whole text)) cap = search rules in
     let second : value ≡ min (fold next_digit c.more_digits.result fraction) cap = c.more_digits-value.ensures ∙ ap (λ (digits : List ℕ). min (fold next_digit c.more_digits.result digits) cap) tail in
     let is : value ≡ min number cap = joined (take whole text) fraction c.more_digits.result value first second ∙ ap (λ (n : ℕ). min n cap) (fold_is (digits_of text whole) 0 (only_digits text whole numeral)) in
-    let places : length (take (length text - from) (drop from text)) ≡ places_of text whole = ap length tail ∙ simp length-drop (omega arith) in
-    let shift : ℕ = c.args.places - places_of text whole in
-    let few : places_of text whole ≤ c.args.places = omega arith in
+    let places : length (take (length text - from) (drop from text)) ≡ places_after_point text whole = ap length tail ∙ simp length-drop (omega arith) in
+    let shift : ℕ = c.args.places - places_after_point text whole in
+    let few : places_after_point text whole ≤ c.args.places = omega arith in
     let IsRead : ℕ → Type 0 = λ v. IsReadAs text c.args.places (pos least) (pos greatest) (pos v) in
     let Inside : ℕ → Type 0 = λ v. (v ≡ value * 10 ^ shift) × (least ≤ v) × (v ≤ greatest) in
     let Outside : Type 0 = (value * 10 ^ shift < least) ⊎ (greatest < value * 10 ^ shift) in
@@ -44,11 +44,11 @@ returns c =
       from = omega (arith, ints, inside.1);
       to = omega (arith, ints, inside.2);
     } in
-    let refused : Outside → HasFault text c.args.places (pos least) (pos greatest) OutOfRange = λ beyond. record {
+    let refused : Outside → HasDecimalFault text c.args.places (pos least) (pos greatest) OutOfRange = λ beyond. record {
       digits = whole;
       numeral = numeral;
       few = few;
       outside = signed _ _ _ (outside number value shift least greatest is (omega arith) (omega arith) beyond);
     } in
-    let ends = either_end c.in_range.result c.ok_or.result OutOfRange Inside IsRead Outside (HasFault text c.args.places (pos least) (pos greatest)) c.ok_or.ensures.value some none read refused in
+    let ends = either_end c.in_range.result c.ok_or.result OutOfRange Inside IsRead Outside (HasDecimalFault text c.args.places (pos least) (pos greatest)) c.ok_or.ensures.value some none read refused in
     record { ok = ends.0; err = ends.1 }

@@ -2,8 +2,7 @@ use Rattle.std.proofs.Common.{◌≡◌, ◌∙◌, ap₂, ℕ, w64, length, map
 use Rattle.std.specs.Prelude.{zip}
 use Rattle.std.proofs.lemmas.Int.{to_z-of_z}
 use mir.Val.{SFits}
-use Rattle.text_rows.specs.Rows.{text_of}
-use Rattle.sim_report.specs.GroundText.{end_rows}
+use Rattle.text_rows.specs.Rows.{text_of, end_rows}
 use Rattle.sim_report.specs.OccupationText.{occupation_title_rows, share_row}
 use Rattle.sim_report.proofs.RowLemmas.{three_parts}
 use Rattle.sim_report.proofs.shares.occupation_text.Goals as goal

@@ -1,7 +1,7 @@
 use Rattle.std.proofs.Common.{arith, subst}
 use Rattle.std.specs.Prelude.{All}
 use Rattle.std.proofs.lemmas.List.{take_all}
-use Rattle.task_gate.specs.GateSite.{ArePlaces}
+use Rattle.task_gate.specs.GateSite.{ArePlacesBelow}
 use Rattle.task_gate.proofs.Places.{first_a, first_b, goes_on, more_places}
 use Rattle.task_gate.proofs.sites.outside_in.Goals as goal
 
@@ -18,4 +18,4 @@ loop-k-preserved c = record {
 }
 
 pub returns : goal.returns
-returns c = subst (All (ArePlaces c.args.sites)) (take_all c.loop-k.k c.args.pairs.now (omega arith)) c.loop-k.invariant.all
+returns c = subst (All (ArePlacesBelow c.args.sites)) (take_all c.loop-k.k c.args.pairs.now (omega arith)) c.loop-k.invariant.all

@@ -2,7 +2,7 @@ use Rattle.std.proofs.Common.{◌≡◌, ◌+◌, ◌<◌, refl, sym, ap, subst,
 use Rattle.std.proofs.lemmas.Bool.{false≢true}
 use Rattle.charge_model.specs.declared.charge.Charge.TheVariants.{Neutral, Pos}
 use Rattle.tree_leaves.specs.Subtree.{IsPrefix}
-use Rattle.tree_leaves.specs.declared.listing.Found.{Found}
+use Rattle.tree_leaves.specs.declared.listing.FoundLists.{FoundLists}
 use Rattle.tree_leaves.specs.Visits.{IsVisited, AreChildrenVisited}
 use Rattle.tree_leaves.proofs.Counts.{count_closed, count_full, count_node, count_positive}
 use Rattle.tree_leaves.proofs.Branches.{prefix_push}
@@ -30,7 +30,7 @@ visit-returns-then-len-sites-clause-within t c =
 pub visit-returns-then-len-sites-clause-visited : goal.visit-returns-then-len-sites-clause-visited
 visit-returns-then-len-sites-clause-visited t c =
     let room : length c.args.track.now.prefix < c.args.problem.now.sites = omega arith in
-    let entered : Found = record { lists = c.args.found.now.lists; left = c.args.found.now.left - 1 } in
+    let entered : FoundLists = record { lists = c.args.found.now.lists; left = c.args.found.now.left - 1 } in
     where_within c.visit_children.result (AreChildrenVisited c.args.problem.now c.args.threshold c.args.track.now.prefix entered c.visit_children.new.found)
     (IsVisited c.args.problem.now c.args.threshold c.args.track.now.prefix c.args.found.now c.visit_children.new.found)
     (λ h. visited_node c.args.problem.now c.args.threshold c.args.track.now.prefix c.args.found.now entered c.visit_children.new.found room (sym c.enters.ensures ∙ c.if-not-enters.false) (omega arith) refl h) c.visit_children.ensures.visited
@@ -42,7 +42,7 @@ visit-returns-clause-within t c =
 
 pub visit-returns-clause-visited : goal.visit-returns-clause-visited
 visit-returns-clause-visited t c = λ _.
-    let entered : Found = record { lists = c.args.found.now.lists; left = c.args.found.now.left - 1 } in
+    let entered : FoundLists = record { lists = c.args.found.now.lists; left = c.args.found.now.left - 1 } in
     visited_leaf c.args.problem.now c.args.threshold c.args.track.now.prefix c.args.found.now entered c.keep_leaf.new.found (omega arith) (sym c.enters.ensures ∙ c.if-not-enters.false) (omega arith) refl c.in_ok-keep_leaf.ensures
 
 pub visit_child-returns-then-not-takes-clause-within : goal.visit_child-returns-then-not-takes-clause-within

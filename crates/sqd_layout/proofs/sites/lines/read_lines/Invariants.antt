@@ -1,12 +1,12 @@
 use Rattle.std.proofs.Common.{◌≡◌, ◌++◌, map, length, Some}
 use Rattle.sqd_layout.specs.SitesLines.{lines_in}
-use Rattle.sqd_layout.specs.SitesFaults.{AreFine}
+use Rattle.sqd_layout.specs.SitesFaults.{AreFineSitesLines}
 use Rattle.sqd_layout.proofs.sites.lines.read_lines.Given as goal
 
 abbrev pub invariant-loop-line : goal.invariant-loop-line
 invariant-loop-line l = record {
   text : lines_in l.text ≡ map Some l.lines.items ++ lines_in l.rest;
-  fine : AreFine (map Some l.lines.items);
+  fine : AreFineSitesLines (map Some l.lines.items);
 }
 
 abbrev pub decreases-loop-line : goal.decreases-loop-line

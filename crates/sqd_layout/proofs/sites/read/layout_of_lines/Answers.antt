@@ -1,6 +1,6 @@
 use Rattle.std.proofs.Common.{◌∙◌, subst}
-use Rattle.sidb_layout.specs.Refusal.{IsMadeOf, IsRefusal}
-use Rattle.sqd_layout.specs.SitesLines.{sites_of, fixes_of}
+use Rattle.sidb_layout.specs.Refusal.{IsMadeOf, IsLayoutRefusal}
+use Rattle.sqd_layout.specs.SitesLines.{sites_in_lines, fixes_of}
 use Rattle.sqd_layout.specs.SitesFaults.{IsLayoutOf}
 use Rattle.sqd_layout.proofs.WholeText.{if_ok}
 use Rattle.sqd_layout.proofs.sites.read.layout_of_lines.Goals as goal
@@ -11,9 +11,9 @@ unrefused_layout-requires c =
     let fixes = c.deref-2.ensures.value ∙ c.in_ok-fixes.ensures in
     let ls = c.args.lines.now in
     let made = c.clear_lines_make_a_layout.ensures c.lattice_in-lattice.result ls c.in_default-fault_of.ensures in
-    λ refusal h. c.a_layout_is_not_refused.ensures c.lattice_in-lattice.result (sites_of ls) (fixes_of ls) made.0 refusal made.1
-    (subst (λ s. IsRefusal c.lattice_in-lattice.result s (fixes_of c.args.lines.now) refusal) sites
-    (subst (λ f. IsRefusal c.lattice_in-lattice.result c.deref.result.now f refusal) fixes h))
+    λ refusal h. c.a_layout_is_not_refused.ensures c.lattice_in-lattice.result (sites_in_lines ls) (fixes_of ls) made.0 refusal made.1
+    (subst (λ s. IsLayoutRefusal c.lattice_in-lattice.result s (fixes_of c.args.lines.now) refusal) sites
+    (subst (λ f. IsLayoutRefusal c.lattice_in-lattice.result c.deref.result.now f refusal) fixes h))
 
 pub returns-clause-layout : goal.returns-clause-layout
 returns-clause-layout c =

@@ -2,10 +2,10 @@ use Rattle.std.proofs.Common.{rules}
 use borrow.Author.Tests.{tests}
 use Rattle.std.proofs.lemmas.Iterator.{items_from_collect, YieldsList-from_slice}
 use Rattle.std.proofs.lemmas.Iterator.Consumers.{YieldsList-from_filter_map}
-use Rattle.sqd_layout.specs.SitesLines.{site_in}
+use Rattle.sqd_layout.specs.SitesLines.{site_on_line}
 use Rattle.sqd_layout.proofs.sites.read.sites_in.Goals as goal
 
 pub returns : goal.returns
 returns c =
     items_from_collect _ c.collect.ensures.ran
-    (YieldsList-from_filter_map _ site_in (YieldsList-from_slice c.args.lines.now (cc)) c.filter_map.ensures.closure (λ x r q k. search (rules, tests)))
+    (YieldsList-from_filter_map _ site_on_line (YieldsList-from_slice c.args.lines.now (cc)) c.filter_map.ensures.closure (λ x r q k. search (rules, tests)))

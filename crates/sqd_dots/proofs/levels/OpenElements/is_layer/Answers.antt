@@ -2,7 +2,7 @@ use Rattle.std.proofs.Common.{◌≡◌, ◌∙◌, sym, ap, arith, true, ◌&&�
 use Rattle.std.specs.Prelude.{codes}
 use Rattle.std.specs.Str.{bytes_eq}
 use Rattle.sqd_dots.proofs.LevelLemmas.{layer_by}
-use Rattle.sqd_dots.proofs.levels.Levels.is_layer.Goals as goal
+use Rattle.sqd_dots.proofs.levels.OpenElements.is_layer.Goals as goal
 
 pub returns-then-is_layer : goal.returns-then-is_layer
 returns-then-is_layer c = λ around h.

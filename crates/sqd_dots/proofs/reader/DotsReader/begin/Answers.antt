@@ -2,7 +2,7 @@ use Rattle.std.proofs.Common.{sym, refl, ◌∷◌}
 use Rattle.std.proofs.lemmas.Result.{on_ok_weaker}
 use Rattle.sqd_elements.specs.Elements.{element_at}
 use Rattle.sqd_dots.proofs.ReaderLemmas.{begun, inside_both, reader}
-use Rattle.sqd_dots.proofs.reader.Reader.begin.Goals as goal
+use Rattle.sqd_dots.proofs.reader.DotsReader.begin.Goals as goal
 
 pub returns-clause-at : goal.returns-clause-at
 returns-clause-at c = λ around tag tags around_tags more es h sort inside.

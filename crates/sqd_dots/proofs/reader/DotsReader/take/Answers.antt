@@ -1,6 +1,6 @@
 use Rattle.std.proofs.Common.{refl, arith}
 use Rattle.sqd_dots.proofs.ReaderLemmas.{take_start, take_empty, take_end, take_other}
-use Rattle.sqd_dots.proofs.reader.Reader.take.Goals as goal
+use Rattle.sqd_dots.proofs.reader.DotsReader.take.Goals as goal
 
 pub returns-in-Start-clause-read : goal.returns-in-Start-clause-read
 returns-in-Start-clause-read c = λ found h.
