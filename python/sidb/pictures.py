@@ -66,7 +66,6 @@ VERDICT_STYLE: dict[str, tuple[str, str, str]] = {
     "long": ("white", "xxxx", "list too long"),
     "missing": ("white", "++++", "no answer"),
 }
-_OPEN = ("undecided", "budget", "long", "missing")
 _POINT_STYLE = {"works": ("o", "white"), "fails": ("X", "#7a1f00"), "open": ("s", "#888888")}
 _SETTINGS = {"svg.fonttype": "none", "svg.hashsalt": "sidb", "hatch.linewidth": 0.6, "font.size": 8.0}
 _MOST_ROWS = 40
