@@ -1,4 +1,4 @@
-ghost use Rattle.std.specs.Prelude.{◌<◌, IfOk};
+ghost use Rattle.std.specs.Prelude.{◌≡◌, ◌<◌, IfOk, IsErr};
 ghost use Rattle.gate_model.specs.Logic.{pattern_count};
 ghost use Rattle.operational_domain.specs.Placed.{Placed};
 ghost use Rattle.parameter_regions.specs.declared.rectangles.Rectangle.{Rectangle as RectangleData};
@@ -14,8 +14,9 @@ use std::thread::Threads;
 
 /// Why a pattern does not work, or None where it works.
 fn outcome(solved: PatternSolved, pattern: u64) -> Result<Option<CellAnswer>, Memory>
-    ensures { (placed : Placed) (r : RectangleData) → IsTileSolved placed r pattern solved
-        → IfOk result (IsTileOutcome placed r pattern) }
+    ensures outcome { (placed : Placed) (r : RectangleData)
+        → IsTileSolved placed r pattern solved → IfOk result (IsTileOutcome placed r pattern) }
+    ensures memory { IsErr result → solved ≡ PatternSolved.Memory }
 {
     match solved {
         PatternSolved::Memory => Err(Memory),
