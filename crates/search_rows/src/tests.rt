@@ -9,12 +9,14 @@ use ground_state::{SolveAnswer, solve, solve_within};
 use plain_search::{plain_solve, plain_window};
 use potential_problem::Problem;
 use potential_table::read_table;
+use shared_check::walk_shared;
 use sidb_io::NoGate;
 use sidb_units::{MAX_NODES, Memory};
 use std::alloc::Global;
 use std::test::Fail;
 use std::thread::Threads;
 use token_sinks::{Token, Tokens};
+use window_model::window_of;
 
 /// Two sites with a wide span: no list is certainly valid.
 const WIDE_PAIR: &str =
@@ -283,5 +285,28 @@ fn a_window_is_walked_and_checked(rt: HostRuntime) -> Result<(), Fail> {
     };
     let lines = lines_of(alloc, &checked)?;
     assert_eq!(rt; lines.as_str(), "-00- certain\n0--0 certain\n");
+    Ok(())
+}
+
+/// Each token of a certificate is accepted by the look at subtrees, which counts the nodes.
+#[test]
+fn subtrees_are_looked_at(rt: HostRuntime) -> Result<(), Fail> {
+    let alloc = rt.alloc();
+    for text in TABLES {
+        let problem = read_table(alloc, text.as_bytes())?;
+        let SolveAnswer::List(solved) = solve_within(&rt, alloc, &problem, 0, MAX_NODES, 1, &NoGate)
+        else {
+            return Err(Memory)?;
+        };
+        let found = walk_shared(
+            &rt,
+            alloc,
+            &problem,
+            window_of(0),
+            solved.bound,
+            &solved.list,
+        )?;
+        assert_eq!(rt; found, Some(solved.nodes), "{text}");
+    }
     Ok(())
 }
