@@ -5,13 +5,14 @@ use std::alloc::Global;
 use std::test::Fail;
 use std::thread::Threads;
 
-/// A run over memory: its words, its input, how many bytes a call gives or takes at most, and the
-/// number of the read and of the write that fails.
+/// A run over memory: its words, its input, how many bytes a call gives or takes at most, how many
+/// bytes the sink takes in all, and the number of the read and of the write that fails.
 #[derive(Clone, Copy)]
 pub struct Case<'a> {
     pub words: &'a str,
     pub input: &'a str,
     pub piece: usize,
+    pub capacity: usize,
     pub failed_read: Option<u64>,
     pub failed_write: Option<u64>,
 }
@@ -22,6 +23,7 @@ pub fn plain<'a>(words: &'a str, input: &'a str) -> Case<'a> {
         words,
         input,
         piece: 9,
+        capacity: 8192,
         failed_read: None,
         failed_write: None,
     }
@@ -49,7 +51,7 @@ pub fn outcome<R: Threads + Sync, G: Gate>(
     let piece = case.piece.max(1);
     let bytes = case.input.as_bytes().to_vec(alloc)?;
     let mut source = MemSource::new(bytes, piece, numbers(alloc, case.failed_read)?);
-    let room = Vec::with_capacity(alloc, 8192)?;
+    let room = Vec::with_capacity(alloc, case.capacity)?;
     let mut sink = MemSink::new(room, piece, numbers(alloc, case.failed_write)?);
     let status = run(rt, alloc, &words, &mut source, &mut sink, gate);
     Ok((code(&status), sink.written().to_vec(alloc)?))

@@ -5,6 +5,8 @@
 mod case;
 #[cfg(test)]
 mod meeting;
+#[cfg(test)]
+mod refusals;
 mod steady;
 
 pub use steady::steady_run;
