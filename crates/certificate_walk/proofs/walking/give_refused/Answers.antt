@@ -1,6 +1,12 @@
-use Rattle.std.proofs.Common.{[], ◌∷◌, ◌++◌, sym}
-use Rattle.certificate_walk.proofs.Opening.{stopped_here, fed_one}
+use Rattle.std.proofs.Common.{[], ◌∷◌, ◌++◌, arith, sym}
+use Rattle.certificate_walk.proofs.Opening.{has_token, stopped_here, fed_one}
 use Rattle.certificate_walk.proofs.walking.give_refused.Goals as goal
+
+pub token-requires-clause-room : goal.token-requires-clause-room
+token-requires-clause-room g c =
+    let room = c.requires.fits in
+    let some = has_token c.args.guide.now (c.args.track.now.prefix ++ c.args.charge ∷ []) room.tokens room.of_kind in
+    let fits = room.fits in (room.taken, room.known, omega (arith, fits, some))
 
 pub returns-in-Ok-clause-fed : goal.returns-in-Ok-clause-fed
 returns-in-Ok-clause-fed g c =
