@@ -6,7 +6,7 @@ use Rattle.charge_model.specs.declared.charge.Charge.{Charge}
 use Rattle.charge_model.specs.Problem.{Problem, Table, IsTable}
 use Rattle.charge_model.specs.Rules.{energy, at_site, by_hop, IsCertainlyValid}
 use Rattle.charge_model.specs.Tree.{IsAttained}
-use Rattle.list_guesses.specs.declared.guess.Guess.{Guess}
+use Rattle.search_guesses.specs.declared.guess.Guess.{Guess}
 use Rattle.incumbent.specs.Hunting.{IsHunt}
 
 abbrev pub nothing : Problem

@@ -6,7 +6,7 @@ ghost use Rattle.incumbent.specs.Hunting.{IsHunt};
 
 use charge_state::Charge;
 use leaf_rules::{greatest_energy, is_certain};
-use list_guesses::Guess;
+use search_guesses::Guess;
 use potential_problem::Problem;
 use prefix_bound::Track;
 use sidb_units::Memory;

@@ -4,7 +4,7 @@ ghost use Rattle.incumbent.specs.Hunting.{IsHunt};
 
 use crate::hunt::{Hunt, offer};
 use charge_model::MAX_SITES;
-use list_guesses::{Couplings, Guess, couplings_of, settle, wide_guesses};
+use search_guesses::{Couplings, Guess, couplings_of, settle, wide_guesses};
 use potential_problem::Problem;
 use prefix_bound::Track;
 use sidb_units::Memory;

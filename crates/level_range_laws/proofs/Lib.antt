@@ -8,5 +8,8 @@ pub mod Counting
 pub mod Building
 pub mod InOne
 pub mod OneList
+pub mod Decided
+pub mod AtLevels
+pub mod Exist
 pub mod StandardFacts
 mod Refusals

@@ -9,9 +9,8 @@ ghost use Rattle.ground_report.specs.declared.about.About.{About as AboutData};
 ghost use Rattle.sidb_layout.specs.Layout.{Arrangement, IsLayout};
 ghost use Rattle.task_input.specs.Input.{HoldsDistancesBy, IsInput, IsInputFault};
 
-use drawing_laws::laws::each_text_is_drawn;
 use screened_coulomb::laws as layout_problems;
-use sites_laws::laws::each_sites_text_is_read;
+use layout_text_laws::laws::{each_sites_text_is_read, each_text_is_drawn};
 
 /// By the same settings the same bytes mean one problem, of which one thing is told.
 pub fn one_input()

@@ -14,14 +14,13 @@ ghost use Rattle.task_levels.specs.ToldAtLevels.{TellsAtLevels};
 use certain_energy_laws::laws::least_certain_energies_exist;
 use ground_state::laws::one_window_answer;
 use level_range_laws::laws::{
-    answers_hold_ground_states, each_level_is_in_one_part, one_list_of_candidates,
-    one_list_of_printed_parts,
+    answers_hold_ground_states, each_interval_has_candidates, each_interval_has_printed_parts,
+    each_level_is_in_one_part, one_list_of_candidates, one_list_of_printed_parts,
 };
 use marked_list_laws::laws::each_problem_has_a_marked_window_list;
 use occupation::laws::{
     each_list_has_shares, lists_have_one_list_of_shares, rounded_lists_enclose_the_intervals,
 };
-use range_answer_laws::laws::{each_interval_has_candidates, each_interval_has_printed_parts};
 use sim_report::laws::one_window_text;
 use task_ground::laws::entries_have_energies;
 use window_laws::laws::{

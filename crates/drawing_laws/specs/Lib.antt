@@ -1,2 +1,0 @@
-pub use Rattle.sidb_layout.specs.Layout
-pub use Rattle.sqd_layout.specs.DotsFaults

@@ -1,0 +1,6 @@
+pub mod Decided
+pub mod LawsBelow
+pub mod Firsts
+pub mod Ranges
+pub mod Exists
+pub mod Drawn

@@ -1,3 +1,0 @@
-pub mod AtLevels
-pub mod Decided
-pub mod Exist

@@ -1,5 +1,0 @@
-use Rattle.range_answer_laws.proofs.Exist.{candidates_exist}
-use Rattle.range_answer_laws.proofs.laws.each_interval_has_candidates.Goals as goal
-
-pub returns : goal.returns
-returns c = candidates_exist

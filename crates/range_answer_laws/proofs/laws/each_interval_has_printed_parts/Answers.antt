@@ -1,5 +1,0 @@
-use Rattle.range_answer_laws.proofs.Exist.{parts_exist}
-use Rattle.range_answer_laws.proofs.laws.each_interval_has_printed_parts.Goals as goal
-
-pub returns : goal.returns
-returns c = parts_exist

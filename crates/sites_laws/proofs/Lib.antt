@@ -1,5 +1,0 @@
-pub mod Decided
-pub mod LawsBelow
-pub mod Firsts
-pub mod Ranges
-pub mod Exists

@@ -1,4 +1,0 @@
-//! Each text is a sites text, or has a first fault.
-#![tactic(auto)]
-
-pub mod laws;
