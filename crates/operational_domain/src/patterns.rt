@@ -32,7 +32,7 @@ pub enum PatternSolved {
 
 /// The answer to a pattern by the ground list of its problem.
 #[tactic(auto, using(crate::proofs::Within::entries_within))]
-fn judged(shaped: &Shaped, problem: &Problem, wanted: bool, list: GroundList) -> PatternAnswer
+pub fn judged(shaped: &Shaped, problem: &Problem, wanted: bool, list: GroundList) -> PatternAnswer
     requires outputs { All (IsPairOn shaped.now.layout.sites) shaped.now.outputs }
     requires sites { problem.now.sites ≡ length shaped.now.layout.sites }
     requires list { IsMarkedGroundList problem.now list }
