@@ -5,8 +5,8 @@ use Rattle.table_reading.specs.declared.fault.LineWhy.{LineWhy}
 use Rattle.table_reading.specs.declared.fault.LineWhy.TheVariants.{Form, Range}
 use Rattle.table_reading.specs.declared.fault.TableFault.{TableFault}
 use Rattle.table_reading.specs.declared.fault.TableFault.TheVariants as table
-use Rattle.sqd_layout.specs.SqdFault.{SqdFault}
-use Rattle.sqd_layout.specs.SqdFault.TheVariants as layout
+use Rattle.sqd_scan.specs.declared.fault.SqdFault.{SqdFault}
+use Rattle.sqd_scan.specs.declared.fault.SqdFault.TheVariants as layout
 use Rattle.certificate_reading.specs.declared.fault.CertText.{CertText}
 use Rattle.certificate_reading.specs.declared.fault.CertText.TheVariants as text
 use Rattle.fault_lines.specs.declared.input_fault.InputFault.{InputFault}

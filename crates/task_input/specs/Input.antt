@@ -8,7 +8,7 @@ use Rattle.table_reading.specs.Reading.{IsTableText, IsTableFault}
 use Rattle.model_params.specs.declared.params.Params.{Params}
 use Rattle.screened_coulomb.specs.Layouts.{IsProblemOf, HoldsDistances}
 use Rattle.sqd_layout.specs.SqdFault.TheVariants.{Memory as NoMemoryForLayout}
-use Rattle.sqd_layout.specs.SitesFaults.{IsSitesText, IsSitesFault}
+use Rattle.sites_layout.specs.SitesFaults.{IsSitesText, IsSitesFault}
 use Rattle.sqd_layout.specs.DotsFaults.{IsSqdText, IsSqdFault}
 use Rattle.command_words.specs.declared.settings.Settings.{Settings}
 use Rattle.command_words.specs.declared.settings.InputForm.{InputForm}
