@@ -4,7 +4,7 @@ use Rattle.std.proofs.lemmas.Bool.{cases_lt}
 use Rattle.sidb_units.specs.declared.TheConstants.{MAX_INPUT_BYTES}
 use Rattle.charge_model.specs.Problem.{Problem, IsProblem}
 use Rattle.sidb_layout.specs.Layout.{Arrangement, IsLayout}
-use Rattle.table_reading.specs.declared.fault.TableFault.{TableFault}
+use Rattle.table_lines.specs.declared.fault.TableFault.{TableFault}
 use Rattle.table_reading.specs.Reading.{IsTableText, IsTableFault}
 use Rattle.model_params.specs.declared.params.Params.{Params}
 use Rattle.screened_coulomb.specs.Layouts.{IsProblemOf, HoldsDistances}

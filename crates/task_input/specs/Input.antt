@@ -3,7 +3,7 @@ use Rattle.std.specs.Prelude.{◌≡◌, ◌⊎◌, ℕ, ◌<◌, ◌≤◌, Lis
 use Rattle.sidb_units.specs.declared.TheConstants.{MAX_INPUT_BYTES}
 use Rattle.charge_model.specs.Problem.{Problem}
 use Rattle.sidb_layout.specs.Layout.{Arrangement}
-use Rattle.table_reading.specs.declared.fault.TableFault.TheVariants.{Memory as NoMemoryForTable}
+use Rattle.table_lines.specs.declared.fault.TableFault.TheVariants.{Memory as NoMemoryForTable}
 use Rattle.table_reading.specs.Reading.{IsTableText, IsTableFault}
 use Rattle.model_params.specs.declared.params.Params.{Params}
 use Rattle.screened_coulomb.specs.Layouts.{IsProblemOf, HoldsDistances}
