@@ -1,4 +1,4 @@
-//! What the lines of table texts promise: each text has one list of them, or one first row at fault.
+//! What the lines of table texts promise: each text has one list of them, or a first row at fault.
 ghost use Rattle.std.specs.Prelude.{◌≡◌, ◌⊎◌, ◌++◌, ℕ, List};
 ghost use Rattle.table_lines.specs.declared.fault.TableFault.{TableFault as FaultData};
 ghost use Rattle.table_lines.specs.declared.line.TableLine.{TableLine as LineData};
