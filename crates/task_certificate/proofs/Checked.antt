@@ -1,5 +1,5 @@
 -- a checker that is fed the tokens of a text
-use Rattle.std.proofs.Common.{◌≤◌, ◌^◌, sym, subst, refl, ℕ, pos, List, [], length, Result, Ok, Err, OnOk, IfErr, arith}
+use Rattle.std.proofs.Common.{◌≡◌, ◌≢◌, ◌≤◌, ◌^◌, sym, subst, refl, ℕ, pos, List, [], length, Option, None, Result, Ok, Err, IsOk, OnOk, IfErr, arith}
 use Rattle.charge_model.specs.Problem.{Problem}
 use Rattle.charge_model.specs.GroundList.{Entry}
 use Rattle.certificate_model.specs.declared.token.Token.{Token}

@@ -29,7 +29,7 @@ use Rattle.run_answer.specs.Due.{DueIs}
 use Rattle.run_answer.specs.Status.{IsFaultAnswer, IsUnsoundAnswer}
 use Rattle.task_ground.specs.GroundAnswer.{IsReport}
 use Rattle.task_ground.specs.Told.{HoldsUnderEachTable}
-use Rattle.task_certificate.specs.CheckAnswer.{IsCheckAnswer, IsReportAnswer, IsTextFault, IsTextRefusal, IsCheckVerdict, about_certificate}
+use Rattle.task_certificate.specs.CheckAnswer.{IsCertificateVerdict, IsCheckAnswer, IsReportAnswer, IsTextFault, IsTextRefusal, IsCheckVerdict, about_certificate}
 use Rattle.task_certificate.specs.Told.{TellsCheckedList}
 use Rattle.task_certificate.proofs.Named.{refusal_named, text_named, too_long_named}
 

@@ -1,5 +1,5 @@
 -- no fault of a certificate text, and no refusal of a certificate, is want of memory
-use Rattle.std.proofs.Common.{◌≡◌, ◌≢◌, subst, ℕ, ◌+◌, pos, List, [], ◌∷◌, length, inl, inr, Option, None, Some, Bool, true, false, cond, not}
+use Rattle.std.proofs.Common.{◌≡◌, ◌≢◌, subst, ℕ, ◌+◌, pos, List, [], ◌∷◌, length, ◌⊎◌, inl, inr, Option, None, Some, Bool, true, false, cond, not}
 use Rattle.charge_model.specs.Problem.{Problem}
 use Rattle.charge_model.specs.GroundList.{Entry}
 use Rattle.table_lines.specs.declared.line.TableLine.{TableLine}
@@ -10,7 +10,7 @@ use Rattle.table_lines.specs.declared.fault.TableFault.TheVariants as table
 use Rattle.table_lines.specs.Kinds.{spans_of}
 use Rattle.table_lines.specs.Ranges.{fault_in, has_many_sites, has_many_fixed, is_table_line_in_range, is_reversed, twice_in}
 use Rattle.table_lines.specs.FineLines.{IsTableRowFault}
-use Rattle.table_reading.specs.Reading.{IsFrontFault}
+use Rattle.table_reading.specs.Reading.{IsFrontFault, IsLack}
 use Rattle.certificate_model.specs.declared.token.Token.{Token}
 use Rattle.certificate_model.specs.declared.refusal.CertRefusal.{CertRefusal}
 use Rattle.certificate_model.specs.declared.refusal.CertRefusal.TheVariants as refusal

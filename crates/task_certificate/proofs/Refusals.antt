@@ -7,7 +7,7 @@ use Rattle.command_words.specs.declared.settings.Settings.{Settings}
 use Rattle.fault_lines.specs.declared.input_fault.InputFault.TheVariants.{Layout, TooLong}
 use Rattle.certificate_model.specs.declared.token.Token.{Token}
 use Rattle.certificate_model.specs.declared.refusal.CertRefusal.TheVariants.{Short}
-use Rattle.run_answer.specs.declared.status.Status.TheVariants.{Budget, Certificate}
+use Rattle.run_answer.specs.declared.status.Status.TheVariants.{Answered, Budget, Certificate, ListTooLong}
 use Rattle.task_certificate.specs.CertifyAnswer.{IsCertifyAnswer}
 use Rattle.task_certificate.specs.CheckAnswer.{IsTextFault, IsCheckVerdict}
 

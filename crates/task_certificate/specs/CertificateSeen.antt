@@ -1,6 +1,7 @@
 -- the fields of a certificate that is due
-use Rattle.std.specs.Prelude.{◌≤◌}
-use Rattle.charge_model.specs.GroundList.{IsMarkedGroundList}
+use Rattle.std.specs.Prelude.{ℤ, ◌≤◌, List, Option}
+use Rattle.charge_model.specs.Problem.{Problem}
+use Rattle.charge_model.specs.GroundList.{Entry, IsMarkedGroundList}
 use Rattle.charge_model.specs.Tree.{IsLeastCertain, node_count}
 use Rattle.sidb_units.specs.declared.TheConstants.{MAX_NODES}
 use Rattle.task_certificate.specs.declared.certificate.CertificateDue.TheInside.{Inside}
