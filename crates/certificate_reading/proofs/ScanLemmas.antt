@@ -8,9 +8,9 @@ use Rattle.charge_model.specs.Problem.{Problem}
 use Rattle.ground_entries.specs.Seen.{seen}
 use Rattle.text_rows.specs.Rows.{rows, words, text_of, lines}
 use Rattle.text_rows.proofs.RowLemmas.{one_text, rows_back}
-use Rattle.table_reading.proofs.FrontLemmas.{some_row}
-use Rattle.table_reading.specs.declared.fault.LineWhy.{LineWhy}
-use Rattle.table_reading.specs.declared.fault.LineWhy.TheVariants.{Form}
+use Rattle.table_lines.proofs.FrontLemmas.{some_row}
+use Rattle.table_lines.specs.declared.fault.LineWhy.{LineWhy}
+use Rattle.table_lines.specs.declared.fault.LineWhy.TheVariants.{Form}
 use Rattle.certificate_lines.specs.declared.line.CertLine.{CertLine}
 use Rattle.certificate_lines.specs.Lines.{certificate_line_words, entry_line}
 use Rattle.certificate_reading.specs.declared.counts.TextPart.{TextPart}

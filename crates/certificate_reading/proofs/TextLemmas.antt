@@ -7,7 +7,7 @@ use Rattle.charge_model.specs.Problem.{Problem}
 use Rattle.charge_model.specs.GroundList.{Entry as Marked}
 use Rattle.ground_entries.specs.Seen.{seen}
 use Rattle.text_rows.specs.Rows.{rows, lines, words, text_of}
-use Rattle.table_reading.specs.Lines.{table_line_words as table_words}
+use Rattle.table_lines.specs.Lines.{table_line_words as table_words}
 use Rattle.table_reading.specs.Reading.{IsTableText}
 use Rattle.certificate_reading.specs.declared.scanned.Scanned.{Scanned}
 use Rattle.certificate_reading.specs.declared.fault.CertText.{CertText}

@@ -1,8 +1,8 @@
 // The front of a certificate text, with its whole text tested.
 ghost use Rattle.std.specs.Prelude.{◌≡◌, ◌⊎◌, ◌+◌, ◌≤◌, ◌++◌, ◌∷◌, [], ℕ, List, Bool, length, take, IfSome, IfNone, IfOk, IfErr, MatchOption};
 ghost use Rattle.text_rows.specs.Rows.{rows, text_of};
-ghost use Rattle.table_reading.specs.declared.fault.TableFault.{TableFault as TableWrong};
-ghost use Rattle.table_reading.specs.Lines.{table_line_words as table_words};
+ghost use Rattle.table_lines.specs.declared.fault.TableFault.{TableFault as TableWrong};
+ghost use Rattle.table_lines.specs.Lines.{table_line_words as table_words};
 ghost use Rattle.table_reading.specs.Reading.{IsTableText, IsFrontFault};
 ghost use Rattle.certificate_reading.specs.declared.fault.CertText.TheVariants.{Memory as OutOfMemory};
 ghost use Rattle.certificate_reading.specs.Texts.{BeginsWithLine, IsHeaded, IsCertificateFront, IsCertFault, head_words, table_head};

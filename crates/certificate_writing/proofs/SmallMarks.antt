@@ -14,7 +14,7 @@ use Rattle.charge_model.specs.Problem.{Problem, Table, IsTable, IsProblem, IsLea
 use Rattle.charge_model.specs.Rules.{energy}
 use Rattle.charge_model.specs.GroundList.{Entry, Comparison, own, rival, IsComparisonOf, comparison_slack, comparison_of, span_of, IsListed, IsDeciding, IsMark, IsMarkedGroundList, lists_of}
 use Rattle.text_rows.specs.Rows.{IsShort}
-use Rattle.table_reading.specs.Ranges.{is_below}
+use Rattle.table_lines.specs.Ranges.{is_below}
 use Rattle.certificate_lines.specs.MarkRows.{mark_line, IsShortMark}
 use Rattle.certificate_reading.specs.Ranges.{is_span, is_mark_in_range}
 use Rattle.certificate_reading.specs.Fits.{FitsEntry}

@@ -1,8 +1,8 @@
 -- what is no fault of an input, and lines that differ
 use Rattle.std.proofs.Common.{◌≡◌, refl, length, ap, arith}
 use Rattle.std.specs.Fmt.{digits}
-use Rattle.table_reading.specs.declared.fault.TableFault.TheVariants as table
-use Rattle.sqd_layout.specs.SqdFault.TheVariants as layout
+use Rattle.table_lines.specs.declared.fault.TableFault.TheVariants as table
+use Rattle.sqd_scan.specs.declared.fault.SqdFault.TheVariants as layout
 use Rattle.certificate_model.specs.declared.refusal.CertRefusal.TheVariants as refusal
 use Rattle.certificate_reading.specs.declared.fault.CertText.TheVariants as text
 use Rattle.fault_lines.specs.declared.input_fault.InputFault.TheVariants.{Layout, Table, Text, GateSite}

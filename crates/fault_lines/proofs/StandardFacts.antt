@@ -1,9 +1,9 @@
 -- lines written by hand
 use Rattle.std.proofs.Common.{◌≡◌, refl, [], ◌∷◌, ◌++◌, codes}
 use Rattle.std.specs.Fmt.{digits}
-use Rattle.table_reading.specs.declared.fault.LineWhy.TheVariants.{Form, Range}
-use Rattle.table_reading.specs.declared.fault.TableFault.TheVariants as table
-use Rattle.sqd_layout.specs.SqdFault.TheVariants as layout
+use Rattle.table_lines.specs.declared.fault.LineWhy.TheVariants.{Form, Range}
+use Rattle.table_lines.specs.declared.fault.TableFault.TheVariants as table
+use Rattle.sqd_scan.specs.declared.fault.SqdFault.TheVariants as layout
 use Rattle.certificate_model.specs.declared.refusal.EntryWhy.TheVariants.{NotPossible}
 use Rattle.certificate_model.specs.declared.refusal.CloseWhy.TheVariants.{PopulationHolds}
 use Rattle.certificate_model.specs.declared.refusal.CertRefusal.TheVariants as refusal

@@ -1,12 +1,12 @@
 -- the lines that a run prints where it refuses its words, its input, or the work that it asks for
 use Rattle.std.specs.Prelude.{◌≢◌, ℕ, List, [], ◌∷◌, codes, decimal}
 use Rattle.text_rows.specs.Rows.{text_of}
-use Rattle.table_reading.specs.declared.fault.LineWhy.{LineWhy}
-use Rattle.table_reading.specs.declared.fault.LineWhy.TheVariants.{Form, Range}
-use Rattle.table_reading.specs.declared.fault.TableFault.{TableFault}
-use Rattle.table_reading.specs.declared.fault.TableFault.TheVariants as table
-use Rattle.sqd_layout.specs.SqdFault.{SqdFault}
-use Rattle.sqd_layout.specs.SqdFault.TheVariants as layout
+use Rattle.table_lines.specs.declared.fault.LineWhy.{LineWhy}
+use Rattle.table_lines.specs.declared.fault.LineWhy.TheVariants.{Form, Range}
+use Rattle.table_lines.specs.declared.fault.TableFault.{TableFault}
+use Rattle.table_lines.specs.declared.fault.TableFault.TheVariants as table
+use Rattle.sqd_scan.specs.declared.fault.SqdFault.{SqdFault}
+use Rattle.sqd_scan.specs.declared.fault.SqdFault.TheVariants as layout
 use Rattle.certificate_reading.specs.declared.fault.CertText.{CertText}
 use Rattle.certificate_reading.specs.declared.fault.CertText.TheVariants as text
 use Rattle.fault_lines.specs.declared.input_fault.InputFault.{InputFault}

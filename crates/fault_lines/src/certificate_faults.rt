@@ -4,12 +4,12 @@ ghost use Rattle.fault_lines.specs.FaultLines.{IsNamed, fault_line, input_line, 
 ghost use Rattle.fault_lines.specs.CertificateLines.{certificate_fault_line, close_word, entry_word};
 
 use crate::InputFault;
-use crate::table_lines::{table_line, why_word};
+use crate::table_faults::{table_line, why_word};
 use certificate_model::{CertRefusal, CloseWhy, EntryWhy};
 use certificate_reading::CertText;
-use potential_table::LineWhy;
 use sidb_units::Memory;
 use std::alloc::Global;
+use table_lines::LineWhy;
 
 /// The line where a certificate text is refused.
 pub fn text_line(alloc: Global, fault: CertText) -> Result<String, Memory>

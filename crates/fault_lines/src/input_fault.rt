@@ -1,6 +1,6 @@
 use certificate_reading::CertText;
-use potential_table::TableFault;
-use sqd_layout::SqdFault;
+use sqd_scan::SqdFault;
+use table_lines::TableFault;
 
 /// Why the bytes of an input are refused.
 #[derive(Clone, Copy, Debug, PartialEq, Eq)]

@@ -4,7 +4,7 @@ ghost use Rattle.fault_lines.specs.FaultLines.{IsNamed, fault_line, input_line};
 
 use crate::InputFault;
 use sidb_units::Memory;
-use sqd_layout::SqdFault;
+use sqd_scan::SqdFault;
 use std::alloc::Global;
 
 /// The line where the text of a layout is refused.

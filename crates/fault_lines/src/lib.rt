@@ -5,7 +5,7 @@ mod certificate_faults;
 mod input_fault;
 mod layout_lines;
 mod lines;
-mod table_lines;
+mod table_faults;
 
 pub use certificate_faults::certificate_fault_line;
 pub use input_fault::InputFault;

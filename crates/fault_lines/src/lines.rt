@@ -4,7 +4,7 @@ ghost use Rattle.fault_lines.specs.FaultLines.{IsNamed, budget_line, input_line,
 use crate::InputFault;
 use crate::certificate_faults::text_line;
 use crate::layout_lines::layout_line;
-use crate::table_lines::table_line;
+use crate::table_faults::table_line;
 use sidb_units::Memory;
 use std::alloc::Global;
 

@@ -8,11 +8,11 @@ use Rattle.sidb_layout.specs.declared.TheConstants.{LEAST_SQUARED_DISTANCE}
 use Rattle.sidb_layout.specs.Lattice.{squared_distance}
 use Rattle.sidb_layout.specs.Layout.{Arrangement}
 use Rattle.sidb_layout.specs.Refusal.{IsFirstOutside, IsTooClose}
-use Rattle.sqd_layout.specs.declared.sites.line.SitesLine.{SitesLine}
+use Rattle.sites_layout.specs.declared.line.SitesLine.{SitesLine}
 use Rattle.sqd_layout.specs.SqdFault.{SqdFault}
 use Rattle.sqd_layout.specs.SqdFault.TheVariants.{BadLine, OutOfRange, TooMany, TooManyFixes, Duplicate, TooClose}
-use Rattle.sqd_layout.specs.SitesLines.{lines_in, sites_lines_of, sites_in_lines, fixes_of}
-use Rattle.sqd_layout.specs.SitesFaults.{AreFineSitesLines, IsFirstBadLine, IsLineInRange, AreLinesInRange, AreFewLines, HasNoClash, IsFirstClash, IsLatticeOf, IsClear, IsLinesFault, IsLayoutOf, IsSitesText, IsSitesFault}
+use Rattle.sites_layout.specs.SitesLines.{lines_in, sites_lines_of, sites_in_lines, fixes_of}
+use Rattle.sites_layout.specs.SitesFaults.{AreFineSitesLines, IsFirstBadLine, IsLineInRange, AreLinesInRange, AreFewLines, HasNoClash, IsFirstClash, IsLatticeOf, IsClear, IsLinesFault, IsLayoutOf, IsSitesText, IsSitesFault}
 use Rattle.layout_text_laws.proofs.Decided.{Decided}
 use Rattle.layout_text_laws.proofs.LawsBelow.{AreLaws}
 use Rattle.layout_text_laws.proofs.Firsts.{all_or_first, fine_or_bad, none_or_clash}

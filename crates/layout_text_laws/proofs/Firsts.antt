@@ -6,9 +6,9 @@ use Rattle.std.proofs.lemmas.Bool.{cases_eq, false≢true}
 use Rattle.std.proofs.lemmas.List.Elements.{All-nil, All-cons}
 use Rattle.sidb_layout.specs.declared.site.Site.{Site}
 use Rattle.sidb_layout.specs.Refusal.{IsFirstOutside}
-use Rattle.sqd_layout.specs.declared.sites.line.SitesLine.{SitesLine}
-use Rattle.sqd_layout.specs.SitesLines.{is_lattice, place_on}
-use Rattle.sqd_layout.specs.SitesFaults.{AreFineSitesLines, IsFirstBadLine, AreRelated, HasNoClash, IsFirstClash}
+use Rattle.sites_layout.specs.declared.line.SitesLine.{SitesLine}
+use Rattle.sites_layout.specs.SitesLines.{is_lattice, place_on}
+use Rattle.sites_layout.specs.SitesFaults.{AreFineSitesLines, IsFirstBadLine, AreRelated, HasNoClash, IsFirstClash}
 use Rattle.layout_text_laws.proofs.Decided.{Decided, decided_by, both_decided, le_decided, all_decided}
 
 -- the first outside

@@ -6,9 +6,9 @@ use Rattle.sidb_layout.specs.declared.lattice.Lattice.{Lattice}
 use Rattle.sidb_layout.specs.Site.{IsInRange, IsFixInRange}
 use Rattle.sidb_layout.specs.Layout.{Arrangement}
 use Rattle.sidb_layout.specs.Refusal.{IsMadeOf}
-use Rattle.sqd_layout.specs.declared.sites.line.SitesLine.{SitesLine}
-use Rattle.sqd_layout.specs.SitesLines.{sites_in_lines, fixes_of}
-use Rattle.sqd_layout.specs.SitesFaults.{IsClear}
+use Rattle.sites_layout.specs.declared.line.SitesLine.{SitesLine}
+use Rattle.sites_layout.specs.SitesLines.{sites_in_lines, fixes_of}
+use Rattle.sites_layout.specs.SitesFaults.{IsClear}
 use Rattle.layout_text_laws.proofs.Decided.{Decided}
 
 -- what is decided, and that lines without a fault make a layout

@@ -5,11 +5,11 @@ use Rattle.std.proofs.lemmas.List.Elements.{All-head, All-tail}
 use Rattle.sidb_layout.specs.declared.TheConstants.{MAX_STEPS, MAX_OFFSET}
 use Rattle.sidb_layout.specs.declared.lattice.Lattice.{Lattice as CrystalLattice}
 use Rattle.sidb_layout.specs.Lattice.{silicon}
-use Rattle.sqd_layout.specs.declared.sites.line.Vectors.{Vectors}
-use Rattle.sqd_layout.specs.declared.sites.line.SitesLine.{SitesLine}
-use Rattle.sqd_layout.specs.declared.sites.line.SitesLine.TheVariants.{Empty, Place, Charge, Lattice}
-use Rattle.sqd_layout.specs.SitesLines.{vectors_of}
-use Rattle.sqd_layout.specs.SitesFaults.{AreInReach, HasTheseVectors, IsLineInRange, AreLinesInRange, IsLatticeOf}
+use Rattle.sites_layout.specs.declared.line.Vectors.{Vectors}
+use Rattle.sites_layout.specs.declared.line.SitesLine.{SitesLine}
+use Rattle.sites_layout.specs.declared.line.SitesLine.TheVariants.{Empty, Place, Charge, Lattice}
+use Rattle.sites_layout.specs.SitesLines.{vectors_of}
+use Rattle.sites_layout.specs.SitesFaults.{AreInReach, HasTheseVectors, IsLineInRange, AreLinesInRange, IsLatticeOf}
 use Rattle.layout_text_laws.proofs.Decided.{Decided, decided_by, both_decided, le_decided}
 use Rattle.layout_text_laws.proofs.LawsBelow.{AreLaws}
 

@@ -1,7 +1,7 @@
 ghost use Rattle.std.specs.Prelude.{◌⊎◌, ℕ, List};
 ghost use Rattle.sidb_layout.specs.Layout.{Arrangement};
 ghost use Rattle.sqd_layout.specs.SqdFault.{SqdFault};
-ghost use Rattle.sqd_layout.specs.SitesFaults.{IsSitesText, IsSitesFault};
+ghost use Rattle.sites_layout.specs.SitesFaults.{IsSitesText, IsSitesFault};
 ghost use Rattle.sqd_layout.specs.DotsFaults.{IsSqdText, IsSqdFault};
 
 /// Each text is the sites text of a layout, or has a first fault.
@@ -12,7 +12,7 @@ pub fn each_sites_text_is_read()
     layout_laws::laws::places_are_in_range_or_not();
     layout_laws::laws::fixes_are_in_range_or_not();
     layout_laws::laws::places_are_the_same_or_not();
-    sqd_layout::laws::clear_lines_make_a_layout();
+    sites_layout::laws::clear_lines_make_a_layout();
 }
 
 /// Each text draws a layout and skips some number of items, or it has a first fault.

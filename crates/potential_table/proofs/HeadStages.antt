@@ -11,15 +11,15 @@ use Rattle.charge_model.specs.declared.TheConstants.{MAX_SITES, MAX_FIXED, MAX_P
 use Rattle.charge_model.specs.Problem.{Problem, IsProblem, IsFixedCharge, AreSpans, fixed_count, pairs_before}
 use Rattle.text_rows.specs.Rows.{IsShort}
 use Rattle.text_rows.proofs.RowLemmas.{and_both}
-use Rattle.table_reading.specs.declared.line.TableLine.{TableLine}
-use Rattle.table_reading.specs.declared.line.TableLine.TheVariants.{FirstVersion, SecondVersion, Sites, Fixed, Base, Levels, Charge, Class}
-use Rattle.table_reading.specs.Seen.{ends_of}
-use Rattle.table_reading.specs.Kinds.{site_count_in, fixed_of, fixed_charges_in, spans_of, pair_in, pair_class, near_in, near_class, most_classes}
-use Rattle.table_reading.specs.Order.{may_follow_lines, may_follow_charges}
-use Rattle.table_reading.specs.Ranges.{is_from_to}
-use Rattle.table_reading.specs.Reading.{IsFineTableLine}
-use Rattle.table_reading.proofs.KindLemmas.{pair_push, near_push}
-use Rattle.table_reading.proofs.Sound.{fault_none}
+use Rattle.table_lines.specs.declared.line.TableLine.{TableLine}
+use Rattle.table_lines.specs.declared.line.TableLine.TheVariants.{FirstVersion, SecondVersion, Sites, Fixed, Base, Levels, Charge, Class}
+use Rattle.table_lines.specs.Seen.{ends_of}
+use Rattle.table_lines.specs.Kinds.{site_count_in, fixed_of, fixed_charges_in, spans_of, pair_in, pair_class, near_in, near_class, most_classes}
+use Rattle.table_lines.specs.Order.{may_follow_lines, may_follow_charges}
+use Rattle.table_lines.specs.Ranges.{is_from_to}
+use Rattle.table_lines.specs.FineLines.{IsFineTableLine}
+use Rattle.table_lines.proofs.KindLemmas.{pair_push, near_push}
+use Rattle.table_lines.proofs.Sound.{fault_none}
 use Rattle.potential_table.specs.TableRows.{head_lines, charge_lines, class_lines}
 use Rattle.potential_table.proofs.StageLemmas.{AreBegun, begun_more, IsOpenToClass, cond_true, cond_false, after_last, not_below, no_less, is_less, is_fewer, other_int}
 

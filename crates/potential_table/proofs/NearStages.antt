@@ -9,15 +9,16 @@ use Rattle.std.proofs.lemmas.Bool.Decides.{nat_tests}
 use Rattle.std.proofs.lemmas.List.{append-nil}
 use Rattle.charge_model.specs.Problem.{Problem, IsProblem, class_of, near_class_of, fixed_count}
 use Rattle.text_rows.proofs.RowLemmas.{and_both}
-use Rattle.table_reading.specs.declared.line.TableLine.{TableLine}
-use Rattle.table_reading.specs.declared.fault.TableFault.TheVariants.{TwiceNear}
-use Rattle.table_reading.specs.Seen.{ends_of}
+use Rattle.table_lines.specs.declared.line.TableLine.{TableLine}
+use Rattle.table_lines.specs.declared.fault.TableFault.TheVariants.{TwiceNear}
+use Rattle.table_lines.specs.Seen.{ends_of}
 use Rattle.table_reading.specs.Filled.{near_place}
-use Rattle.table_reading.specs.Kinds.{site_count_in, fixed_of, spans_of, pair_class, near_in, near_class}
-use Rattle.table_reading.specs.Reading.{IsFineTableLine, IsEarlierPair}
-use Rattle.table_reading.proofs.KindLemmas.{pair_push, near_push, or_none}
+use Rattle.table_lines.specs.Kinds.{site_count_in, fixed_of, spans_of, pair_class, near_in, near_class}
+use Rattle.table_lines.specs.FineLines.{IsFineTableLine}
+use Rattle.table_reading.specs.Reading.{IsEarlierPair}
+use Rattle.table_lines.proofs.KindLemmas.{pair_push, near_push, or_none}
 use Rattle.table_reading.proofs.ProblemLemmas.{near_in_order}
-use Rattle.table_reading.proofs.Sound.{fault_none}
+use Rattle.table_lines.proofs.Sound.{fault_none}
 use Rattle.potential_table.specs.TableRows.{head_lines, charge_lines, class_lines, pair_lines, near_line, near_at, near_lines}
 use Rattle.potential_table.proofs.StageLemmas.{AreBegun, begun_more, IsOpen, after_last, not_below, is_less}
 use Rattle.potential_table.proofs.RangeLemmas.{class_few}

@@ -7,15 +7,16 @@ use Rattle.std.proofs.lemmas.List.{append-nil}
 use Rattle.charge_model.specs.Problem.{Problem, IsProblem, class_of}
 use Rattle.potential_problem.proofs.Places.{pairs_before-le}
 use Rattle.text_rows.proofs.RowLemmas.{and_both}
-use Rattle.table_reading.specs.declared.line.TableLine.{TableLine}
-use Rattle.table_reading.specs.declared.fault.TableFault.TheVariants.{TwicePair}
-use Rattle.table_reading.specs.Seen.{ends_of}
+use Rattle.table_lines.specs.declared.line.TableLine.{TableLine}
+use Rattle.table_lines.specs.declared.fault.TableFault.TheVariants.{TwicePair}
+use Rattle.table_lines.specs.Seen.{ends_of}
 use Rattle.table_reading.specs.Filled.{pair_place}
-use Rattle.table_reading.specs.Kinds.{site_count_in, spans_of, pair_in, pair_class, near_class}
-use Rattle.table_reading.specs.Reading.{IsFineTableLine, IsEarlierPair}
-use Rattle.table_reading.proofs.KindLemmas.{pair_push, near_push, or_none}
+use Rattle.table_lines.specs.Kinds.{site_count_in, spans_of, pair_in, pair_class, near_class}
+use Rattle.table_lines.specs.FineLines.{IsFineTableLine}
+use Rattle.table_reading.specs.Reading.{IsEarlierPair}
+use Rattle.table_lines.proofs.KindLemmas.{pair_push, near_push, or_none}
 use Rattle.table_reading.proofs.ProblemLemmas.{class_in_order}
-use Rattle.table_reading.proofs.Sound.{fault_none}
+use Rattle.table_lines.proofs.Sound.{fault_none}
 use Rattle.potential_table.specs.TableRows.{head_lines, charge_lines, class_lines, pair_line, pairs_from, pair_lines}
 use Rattle.potential_table.proofs.StageLemmas.{AreBegun, begun_more, IsOpen, or_right, after_last, not_below, is_less}
 use Rattle.potential_table.proofs.RangeLemmas.{class_few}

@@ -4,16 +4,17 @@ use Rattle.std.proofs.lemmas.List.{append-nil}
 use Rattle.charge_model.specs.Problem.{Problem, IsProblem}
 use Rattle.text_rows.specs.Rows.{text_of}
 use Rattle.text_rows.proofs.RowLemmas.{rows_back}
-use Rattle.table_reading.specs.declared.line.TableLine.{TableLine}
-use Rattle.table_reading.specs.declared.line.TableLine.TheVariants.{End}
-use Rattle.table_reading.specs.Lines.{table_line_words}
-use Rattle.table_reading.specs.Seen.{ends_of}
-use Rattle.table_reading.specs.Kinds.{is_last_end, pair_class, near_class}
-use Rattle.table_reading.specs.Reading.{IsFineTableLine, IsTableText, AreTableLinesIn, AreTableLinesOf}
-use Rattle.table_reading.proofs.KindLemmas.{last_push, pair_push, near_push, or_none}
-use Rattle.table_reading.proofs.LineLemmas.{fine_rows}
+use Rattle.table_lines.specs.declared.line.TableLine.{TableLine}
+use Rattle.table_lines.specs.declared.line.TableLine.TheVariants.{End}
+use Rattle.table_lines.specs.Lines.{table_line_words}
+use Rattle.table_lines.specs.Seen.{ends_of}
+use Rattle.table_lines.specs.Kinds.{is_last_end, pair_class, near_class}
+use Rattle.table_lines.specs.FineLines.{IsFineTableLine, AreTableLinesIn}
+use Rattle.table_reading.specs.Reading.{IsTableText, AreTableLinesOf}
+use Rattle.table_lines.proofs.KindLemmas.{last_push, pair_push, near_push, or_none}
+use Rattle.table_lines.proofs.LineLemmas.{fine_rows}
 use Rattle.table_reading.proofs.OneProblem.{one_problem}
-use Rattle.table_reading.proofs.Sound.{fault_none}
+use Rattle.table_lines.proofs.Sound.{fault_none}
 use Rattle.potential_table.specs.TableRows.{problem_lines, table_rows}
 use Rattle.potential_table.proofs.StageLemmas.{AreBegun, begun_more}
 use Rattle.potential_table.proofs.NearStages.{HasNear, near_stage}

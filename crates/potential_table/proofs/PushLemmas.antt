@@ -3,10 +3,10 @@ use Rattle.std.proofs.Common.{◌≡◌, ◌∙◌, sym, ap, refl, ℕ, ℤ, zer
 use Rattle.std.specs.List.{join_with_byte, range_with_len, flat_map}
 use Rattle.std.proofs.lemmas.List.{map_more, flat_map_more}
 use Rattle.std.proofs.lemmas.List.FromFn.{map-range_with_len_more}
-use Rattle.table_reading.specs.declared.line.TableLine.TheVariants.{Class}
+use Rattle.table_lines.specs.declared.line.TableLine.TheVariants.{Class}
 use Rattle.text_rows.specs.Rows.{text_of}
-use Rattle.table_reading.specs.declared.line.TableLine.{TableLine}
-use Rattle.table_reading.specs.Lines.{table_line_words}
+use Rattle.table_lines.specs.declared.line.TableLine.{TableLine}
+use Rattle.table_lines.specs.Lines.{table_line_words}
 
 -- one more of the items
 pub one_more : {X : Type 0} (f : X → TableLine) (old xs ys : List TableLine) (items : List X) (i : ℕ) (d : X) → i < length items → xs ≡ old ++ map f (take i items) → ys ≡ xs ++ f (get_or items i d) ∷ [] → ys ≡ old ++ map f (take (i + 1) items)

@@ -7,7 +7,7 @@ use Rattle.std.proofs.lemmas.Int.{ints, to_z_pos}
 use Rattle.charge_model.specs.declared.TheConstants.{MAX_POTENTIAL}
 use Rattle.text_rows.specs.Rows.{IsShort}
 use Rattle.text_rows.proofs.Numbers.{short_fits}
-use Rattle.table_reading.specs.declared.line.TableLine.TheVariants.{Pair, Near}
+use Rattle.table_lines.specs.declared.line.TableLine.TheVariants.{Pair, Near}
 
 pairs_few : (n i : ℕ) → pairs_before n i ≤ i * n
 pairs_few n zero = omega arith

@@ -5,12 +5,12 @@ use Rattle.std.specs.Ordering.{int_eq}
 use Rattle.std.proofs.lemmas.Int.{ints}
 use Rattle.std.proofs.lemmas.Bool.Decides.{nat_tests}
 use Rattle.charge_model.specs.Problem.{Problem, fixed_count}
-use Rattle.table_reading.specs.declared.line.TableLine.{TableLine}
-use Rattle.table_reading.specs.Kinds.{is_second, has_fixed_part, sites_after, site_count_in, fixed_after, fixed_of, base_after, base_of, minus_after, minus_of, plus_after, plus_of, fixed_charges_in, spans_of}
-use Rattle.table_reading.specs.Order.{may_follow_lines, may_follow_last, ends_or_places, is_class}
-use Rattle.table_reading.specs.Reading.{AreFineTableLines, IsFineTableLine}
-use Rattle.table_reading.proofs.KindLemmas.{or_false, last_push, second_push, sites_push, fixed_push, base_push, minus_push, plus_push, charges_push, spans_push}
-use Rattle.table_reading.proofs.Sound.{fine_more}
+use Rattle.table_lines.specs.declared.line.TableLine.{TableLine}
+use Rattle.table_lines.specs.Kinds.{is_second, has_fixed_part, sites_after, site_count_in, fixed_after, fixed_of, base_after, base_of, minus_after, minus_of, plus_after, plus_of, fixed_charges_in, spans_of}
+use Rattle.table_lines.specs.Order.{may_follow_lines, may_follow_last, ends_or_places, is_class}
+use Rattle.table_lines.specs.FineLines.{AreFineTableLines, IsFineTableLine}
+use Rattle.table_lines.proofs.KindLemmas.{or_false, last_push, second_push, sites_push, fixed_push, base_push, minus_push, plus_push, charges_push, spans_push}
+use Rattle.table_lines.proofs.Sound.{fine_more}
 
 -- the lines are fine, and give the problem's counts and levels, these charges and these spans
 pub record AreBegun (p : Problem) (ls : List TableLine) (cs : List ℤ) (ss : List (ℤ × ℤ)) : Type 0 where

@@ -3,7 +3,7 @@ use Rattle.std.proofs.Common.{◌≡◌, ℕ, ℤ, pos, negsuc, List, [], ◌∷
 use Rattle.std.proofs.lemmas.Int.{ints}
 use Rattle.charge_model.specs.declared.span.Span.{Span}
 use Rattle.charge_model.specs.Problem.{Problem, class_of, near_class_of}
-use Rattle.table_reading.specs.declared.line.TableLine.TheVariants.{FirstVersion, SecondVersion, Sites, Fixed, Base, Levels, Charge, Class, Pair, Near, End}
+use Rattle.table_lines.specs.declared.line.TableLine.TheVariants.{FirstVersion, SecondVersion, Sites, Fixed, Base, Levels, Charge, Class, Pair, Near, End}
 use Rattle.potential_table.specs.TableRows.{problem_lines}
 
 abbrev small_span : Span

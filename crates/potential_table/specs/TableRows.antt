@@ -2,9 +2,9 @@
 use Rattle.std.specs.Prelude.{ℕ, suc, ◌-◌, ◌==◌, pos, cond, List, [], ◌∷◌, ◌++◌, map, flat_map}
 use Rattle.std.specs.List.{range_with_len}
 use Rattle.charge_model.specs.Problem.{Problem, class_of, near_class_of, fixed_count}
-use Rattle.table_reading.specs.declared.line.TableLine.{TableLine}
-use Rattle.table_reading.specs.declared.line.TableLine.TheVariants.{FirstVersion, SecondVersion, Sites, Fixed, Base, Levels, Charge, Class, Pair, Near, End}
-use Rattle.table_reading.specs.Lines.{table_line_words}
+use Rattle.table_lines.specs.declared.line.TableLine.{TableLine}
+use Rattle.table_lines.specs.declared.line.TableLine.TheVariants.{FirstVersion, SecondVersion, Sites, Fixed, Base, Levels, Charge, Class, Pair, Near, End}
+use Rattle.table_lines.specs.Lines.{table_line_words}
 
 -- the version, the counts and the levels: version 1 exactly where there is no fixed charge
 abbrev pub head_lines : Problem → List TableLine

@@ -1,7 +1,7 @@
 // The bytes of lines.
 ghost use Rattle.std.specs.Prelude.{◌≡◌, ◌++◌, ◌∷◌, [], map, string_bytes, IfOk, OnOk};
 ghost use Rattle.text_rows.specs.Rows.{text_of};
-ghost use Rattle.table_reading.specs.Lines.{table_line_words};
+ghost use Rattle.table_lines.specs.Lines.{table_line_words};
 ghost use Rattle.potential_table.specs.TableRows.{table_rows};
 
 use crate::lines::table_lines;

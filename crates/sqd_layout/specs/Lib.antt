@@ -1,6 +1,2 @@
-pub mod SitesWords
-pub mod SitesLines
-pub mod SitesFaults
-pub mod SitesClash
 pub mod DotsFaults
 pub use Rattle.sqd_scan.specs.declared.fault.SqdFault

@@ -2,14 +2,15 @@
 use Rattle.std.proofs.Common.{◌≡◌, ◌≢◌, subst, ℕ, ◌+◌, pos, List, [], ◌∷◌, length, ◌⊎◌, inl, inr, Option, None, Some, Bool, true, false, cond, not}
 use Rattle.charge_model.specs.Problem.{Problem}
 use Rattle.charge_model.specs.GroundList.{Entry}
-use Rattle.table_reading.specs.declared.line.TableLine.{TableLine}
-use Rattle.table_reading.specs.declared.line.TableLine.TheVariants as lines
-use Rattle.table_reading.specs.declared.fault.LineWhy.TheVariants as why
-use Rattle.table_reading.specs.declared.fault.TableFault.{TableFault}
-use Rattle.table_reading.specs.declared.fault.TableFault.TheVariants as table
-use Rattle.table_reading.specs.Kinds.{spans_of}
-use Rattle.table_reading.specs.Ranges.{fault_in, has_many_sites, has_many_fixed, is_table_line_in_range, is_reversed, twice_in}
-use Rattle.table_reading.specs.Reading.{IsTableRowFault, IsFrontFault, IsLack}
+use Rattle.table_lines.specs.declared.line.TableLine.{TableLine}
+use Rattle.table_lines.specs.declared.line.TableLine.TheVariants as lines
+use Rattle.table_lines.specs.declared.fault.LineWhy.TheVariants as why
+use Rattle.table_lines.specs.declared.fault.TableFault.{TableFault}
+use Rattle.table_lines.specs.declared.fault.TableFault.TheVariants as table
+use Rattle.table_lines.specs.Kinds.{spans_of}
+use Rattle.table_lines.specs.Ranges.{fault_in, has_many_sites, has_many_fixed, is_table_line_in_range, is_reversed, twice_in}
+use Rattle.table_lines.specs.FineLines.{IsTableRowFault}
+use Rattle.table_reading.specs.Reading.{IsFrontFault, IsLack}
 use Rattle.certificate_model.specs.declared.token.Token.{Token}
 use Rattle.certificate_model.specs.declared.refusal.CertRefusal.{CertRefusal}
 use Rattle.certificate_model.specs.declared.refusal.CertRefusal.TheVariants as refusal

@@ -3,12 +3,12 @@ use Rattle.std.proofs.Common.{◌≡◌, ◌∙◌, refl, sym, ap, ap₂, subst,
 use Rattle.sidb_units.specs.declared.TheConstants.{MAX_INPUT_BYTES}
 use Rattle.charge_model.specs.Problem.{Problem}
 use Rattle.sidb_layout.specs.Layout.{Arrangement}
-use Rattle.table_reading.specs.declared.fault.TableFault.{TableFault}
+use Rattle.table_lines.specs.declared.fault.TableFault.{TableFault}
 use Rattle.table_reading.specs.Reading.{IsTableText, IsTableFault}
 use Rattle.model_params.specs.declared.params.Params.{Params}
 use Rattle.screened_coulomb.specs.Layouts.{IsProblemOf}
 use Rattle.sqd_layout.specs.SqdFault.{SqdFault}
-use Rattle.sqd_layout.specs.SitesFaults.{IsSitesText, IsSitesFault}
+use Rattle.sites_layout.specs.SitesFaults.{IsSitesText, IsSitesFault}
 use Rattle.sqd_layout.specs.DotsFaults.{IsSqdText, IsSqdFault}
 use Rattle.command_words.specs.declared.settings.Settings.{Settings}
 use Rattle.command_words.specs.declared.settings.InputForm.{InputForm}

@@ -4,7 +4,7 @@ use Rattle.std.proofs.lemmas.Int.{ints}
 use Rattle.charge_model.specs.Problem.{Problem}
 use Rattle.sidb_layout.specs.Layout.{Arrangement}
 use Rattle.model_params.specs.declared.params.Params.{Params}
-use Rattle.table_reading.specs.declared.fault.TableFault.{TableFault}
+use Rattle.table_lines.specs.declared.fault.TableFault.{TableFault}
 use Rattle.sqd_layout.specs.SqdFault.{SqdFault}
 use Rattle.sqd_layout.specs.SqdFault.TheVariants.{Memory as NoMemoryForLayout}
 use Rattle.command_words.specs.declared.settings.Settings.{Settings}

@@ -9,15 +9,15 @@ ghost use Rattle.ground_report.specs.declared.about.About.{About as AboutData};
 ghost use Rattle.sidb_layout.specs.Layout.{Arrangement, IsLayout};
 ghost use Rattle.task_input.specs.Input.{HoldsDistancesBy, IsInput, IsInputFault};
 
-use screened_coulomb::laws as layout_problems;
 use layout_text_laws::laws::{each_sites_text_is_read, each_text_is_drawn};
+use screened_coulomb::laws as layout_problems;
 
 /// By the same settings the same bytes mean one problem, of which one thing is told.
 pub fn one_input()
     ensures { (s : Settings) (bytes : List ℕ) (p q : ProblemData) (a b : AboutData)
         → IsInput s bytes p a → IsInput s bytes q b → (p ≡ q) × (a ≡ b) }
 {
-    sqd_layout::laws::one_layout();
+    sites_layout::laws::one_layout();
     sqd_layout::laws::one_drawn_layout();
     layout_problems::one_problem();
     potential_table::laws::one_problem();
@@ -28,7 +28,7 @@ pub fn one_fault()
     ensures { (form : InputForm) (bytes : List ℕ) (f g : InputFault) → IsInputFault form bytes f
         → IsInputFault form bytes g → f ≡ g }
 {
-    sqd_layout::laws::one_fault();
+    sites_layout::laws::one_fault();
     sqd_layout::laws::one_sqd_fault();
     potential_table::laws::one_fault();
 }
@@ -38,7 +38,7 @@ pub fn no_fault()
     ensures { (s : Settings) (bytes : List ℕ) (p : ProblemData) (a : AboutData) (f : InputFault)
         → IsInput s bytes p a → IsInputFault s.form bytes f → ⊥ }
 {
-    sqd_layout::laws::no_fault();
+    sites_layout::laws::no_fault();
     sqd_layout::laws::no_sqd_fault();
     potential_table::laws::no_fault();
 }

@@ -6,7 +6,7 @@ ghost use Rattle.task_input.specs.Input.{IsOfLayout, about_layout};
 use crate::{About, Input};
 use screened_coulomb::{Params, problem};
 use sidb_units::Memory;
-use sqd_layout::Found;
+use sites_layout::Found;
 use std::alloc::Global;
 
 /// The input of a layout that was found in a text.

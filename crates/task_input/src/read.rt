@@ -1,7 +1,7 @@
 ghost use Rattle.std.specs.Prelude.{◌≡◌, ◌⊎◌, IfOk, IfErr};
 ghost use Rattle.ground_report.specs.Subject.{IsAboutProblem};
 ghost use Rattle.table_reading.specs.Reading.{IsTableFault};
-ghost use Rattle.sqd_layout.specs.SitesFaults.{IsSitesFault};
+ghost use Rattle.sites_layout.specs.SitesFaults.{IsSitesFault};
 ghost use Rattle.sqd_layout.specs.DotsFaults.{IsSqdFault};
 ghost use Rattle.task_input.specs.Input.{IsInput, IsInputFault, IsWantOfMemory, MeansSites, MeansSqd, MeansTable};
 
@@ -12,7 +12,8 @@ use fault_lines::InputFault;
 use potential_table::{TableFault, read_table};
 use screened_coulomb::Params;
 use sidb_units::MAX_INPUT_BYTES;
-use sqd_layout::{SqdFault, read_sites, read_sqd};
+use sites_layout::{SqdFault, read_sites};
+use sqd_layout::read_sqd;
 use std::alloc::Global;
 
 /// What the bytes mean in the form that the settings name, or why they are refused: by their first

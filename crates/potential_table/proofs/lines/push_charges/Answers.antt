@@ -1,6 +1,6 @@
 use Rattle.std.proofs.Common.{◌∙◌, ap, ◌++◌, ◌∷◌, [], pos, arith}
-use Rattle.table_reading.specs.declared.line.TableLine.TheVariants.{Charge}
-use Rattle.table_reading.proofs.LineLemmas.{fit}
+use Rattle.table_lines.specs.declared.line.TableLine.TheVariants.{Charge}
+use Rattle.table_lines.proofs.LineLemmas.{fit}
 use Rattle.potential_table.proofs.PushLemmas.{one_more}
 use Rattle.potential_table.proofs.lines.push_charges.Goals as goal
 

@@ -1,5 +1,5 @@
 use Rattle.std.proofs.Common.{◌≡◌, ◌++◌, map, take}
-use Rattle.table_reading.specs.declared.line.TableLine.TheVariants.{Charge}
+use Rattle.table_lines.specs.declared.line.TableLine.TheVariants.{Charge}
 use Rattle.potential_table.proofs.lines.push_charges.Given as goal
 
 abbrev pub invariant-loop-a : goal.invariant-loop-a

@@ -2,8 +2,8 @@ use Rattle.std.proofs.Common.{◌≤ℤ◌, ◌∙◌, ◌<◌, length, pos, ari
 use Rattle.std.proofs.lemmas.Int.{ints}
 use Rattle.std.proofs.lemmas.List.{get_or-map}
 use Rattle.charge_model.specs.declared.TheConstants.{MAX_POTENTIAL}
-use Rattle.table_reading.specs.declared.line.TableLine.TheVariants.{Class}
-use Rattle.table_reading.proofs.LineLemmas.{fit}
+use Rattle.table_lines.specs.declared.line.TableLine.TheVariants.{Class}
+use Rattle.table_lines.proofs.LineLemmas.{fit}
 use Rattle.potential_table.proofs.PushLemmas.{one_more, class_pushed}
 use Rattle.potential_table.proofs.RangeLemmas.{short_potential}
 use Rattle.potential_table.proofs.lines.push_classes.Goals as goal

@@ -1,5 +1,5 @@
 use Rattle.std.proofs.Common.{◌≡◌, ◌++◌, map, take}
-use Rattle.table_reading.specs.declared.line.TableLine.TheVariants.{Class}
+use Rattle.table_lines.specs.declared.line.TableLine.TheVariants.{Class}
 use Rattle.potential_table.proofs.lines.push_classes.Given as goal
 
 abbrev pub invariant-loop-class : goal.invariant-loop-class

@@ -1,0 +1,11 @@
+use Rattle.std.proofs.Common.{rules}
+use borrow.Author.Tests.{tests}
+use Rattle.std.proofs.lemmas.Iterator.{items_from_collect, YieldsList-from_slice}
+use Rattle.std.proofs.lemmas.Iterator.Consumers.{YieldsList-from_filter_map}
+use Rattle.sites_layout.specs.SitesLines.{site_on_line}
+use Rattle.sites_layout.proofs.read.sites_in.Goals as goal
+
+pub returns : goal.returns
+returns c =
+    items_from_collect _ c.collect.ensures.ran
+    (YieldsList-from_filter_map _ site_on_line (YieldsList-from_slice c.args.lines.now (cc)) c.filter_map.ensures.closure (λ x r q k. search (rules, tests)))

@@ -1,5 +1,0 @@
-use Rattle.sqd_layout.proofs.OneReading.{no_fault}
-use Rattle.sqd_layout.proofs.laws.no_fault.Goals as goal
-
-pub returns : goal.returns
-returns c = no_fault

@@ -1,5 +1,0 @@
-use Rattle.sqd_layout.proofs.OneReading.{one_fault}
-use Rattle.sqd_layout.proofs.laws.one_fault.Goals as goal
-
-pub returns : goal.returns
-returns c = one_fault

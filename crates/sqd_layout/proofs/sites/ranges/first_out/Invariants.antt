@@ -1,6 +1,0 @@
-use Rattle.std.proofs.Common.{take, All}
-use Rattle.sqd_layout.specs.SitesFaults.{IsLineInRange}
-use Rattle.sqd_layout.proofs.sites.ranges.first_out.Given as goal
-
-abbrev pub invariant-loop-i : goal.invariant-loop-i
-invariant-loop-i l = All IsLineInRange (take l.i l.lines)

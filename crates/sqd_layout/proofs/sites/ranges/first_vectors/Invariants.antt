@@ -1,6 +1,0 @@
-use Rattle.std.proofs.Common.{◌≡◌, drop}
-use Rattle.sqd_layout.specs.SitesLines.{vectors_of}
-use Rattle.sqd_layout.proofs.sites.ranges.first_vectors.Given as goal
-
-abbrev pub invariant-loop-line : goal.invariant-loop-line
-invariant-loop-line l = vectors_of (drop l.line-index l.lines) ≡ vectors_of l.lines

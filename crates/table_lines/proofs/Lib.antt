@@ -1,0 +1,14 @@
+pub mod LineLemmas
+pub mod KindLemmas
+pub mod GridLemmas
+pub mod Sound
+pub mod PlaceLemmas
+pub mod CountLemmas
+pub mod RangeLemmas
+pub mod FrontLemmas
+pub mod LineReadings
+pub mod Unique
+pub mod OneFront
+pub mod LinesExist
+pub mod StandardFacts
+pub mod Refusals

@@ -1,0 +1,6 @@
+pub mod Lines
+pub mod Kinds
+pub mod Order
+pub mod Ranges
+pub mod Seen
+pub mod FineLines
