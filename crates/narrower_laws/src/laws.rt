@@ -1,0 +1,32 @@
+ghost use Rattle.std.specs.Prelude.{List, Contains};
+ghost use Rattle.charge_model.specs.declared.charge.Charge.{Charge};
+ghost use Rattle.charge_model.specs.Problem.{Problem, Table, IsProblem, IsTable};
+ghost use Rattle.charge_model.specs.GroundList.{IsGroundList};
+ghost use Rattle.narrower_laws.specs.Narrower.{AreStaying, IsNarrower};
+
+use charge_model::laws::{beating_is_transitive, energies_are_small, problems_have_tables};
+
+/// A table of a problem is a table of each wider one.
+pub fn tables_are_tables_of_wider_problems()
+    ensures { (wide narrow : Problem) (t : Table) → IsNarrower wide narrow
+        → IsTable narrow t → IsTable wide t }
+{}
+
+/// Each entry of a problem's ground list is an entry of each wider problem's.
+pub fn entries_are_entries_of_wider_problems()
+    ensures { (wide narrow : Problem) (l m : List (List Charge)) (c : List Charge)
+        → IsNarrower wide narrow → IsGroundList wide l → IsGroundList narrow m
+        → Contains m c → Contains l c }
+{}
+
+/// The ground list of a problem is what stays in it of a wider problem's ground list: no other list
+/// need be looked at.
+pub fn ground_lists_come_from_those_of_wider_problems()
+    ensures { (wide narrow : Problem) (l m : List (List Charge)) → IsProblem narrow
+        → IsNarrower wide narrow → IsGroundList wide l → AreStaying narrow l m
+        → IsGroundList narrow m }
+{
+    problems_have_tables();
+    energies_are_small();
+    beating_is_transitive();
+}
