@@ -1,8 +1,8 @@
-ghost use Rattle.std.specs.Prelude.{List, Contains};
+ghost use Rattle.std.specs.Prelude.{◌↔◌, List, Contains};
 ghost use Rattle.charge_model.specs.declared.charge.Charge.{Charge};
 ghost use Rattle.charge_model.specs.Problem.{Problem, Table, IsProblem, IsTable};
-ghost use Rattle.charge_model.specs.GroundList.{IsGroundList};
-ghost use Rattle.narrower_laws.specs.Narrower.{AreStaying, IsNarrower};
+ghost use Rattle.charge_model.specs.GroundList.{IsGroundList, IsListed};
+ghost use Rattle.narrower_laws.specs.Narrower.{AreStaying, IsNarrower, Stays};
 
 use charge_model::laws::{beating_is_transitive, energies_are_small, problems_have_tables};
 
@@ -18,6 +18,18 @@ pub fn entries_are_entries_of_wider_problems()
         → IsNarrower wide narrow → IsGroundList wide l → IsGroundList narrow m
         → Contains m c → Contains l c }
 {}
+
+/// The lists that stay in a problem of a wider problem's ground list are those that are listed
+/// there, and no others.
+pub fn staying_lists_are_listed()
+    ensures { (wide narrow : Problem) (l : List (List Charge)) (c : List Charge)
+        → IsProblem narrow → IsNarrower wide narrow → IsGroundList wide l
+        → (Stays narrow l c ↔ IsListed narrow c) }
+{
+    problems_have_tables();
+    energies_are_small();
+    beating_is_transitive();
+}
 
 /// The ground list of a problem is what stays in it of a wider problem's ground list: no other list
 /// need be looked at.
