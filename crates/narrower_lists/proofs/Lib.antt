@@ -1,0 +1,2 @@
+pub mod PossibleLemmas
+pub mod TakingLemmas
