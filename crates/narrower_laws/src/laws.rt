@@ -1,9 +1,11 @@
-ghost use Rattle.std.specs.Prelude.{◌↔◌, List, Contains};
+ghost use Rattle.std.specs.Prelude.{◌≤◌, ◌↔◌, ℤ, List, length, Contains, Option};
 ghost use Rattle.charge_model.specs.declared.charge.Charge.{Charge};
 ghost use Rattle.charge_model.specs.Problem.{Problem, Table, IsProblem, IsTable};
 ghost use Rattle.charge_model.specs.GroundList.{IsGroundList, IsListed};
+ghost use Rattle.charge_model.specs.Tree.{node_count, IsLeastCertain};
 ghost use Rattle.narrower_laws.specs.Narrower.{AreStaying, IsNarrower, Stays};
 
+use certain_energy_laws::laws::energies_have_greatest_values;
 use charge_model::laws::{beating_is_transitive, energies_are_small, problems_have_tables};
 
 /// A table of a problem is a table of each wider one.
@@ -41,4 +43,20 @@ pub fn ground_lists_come_from_those_of_wider_problems()
     problems_have_tables();
     energies_are_small();
     beating_is_transitive();
+}
+
+/// The ground list of a problem is no longer than that of each wider one.
+pub fn narrower_ground_lists_are_no_longer()
+    ensures { (wide narrow : Problem) (l m : List (List Charge)) → IsNarrower wide narrow
+        → IsGroundList wide l → IsGroundList narrow m → length m ≤ length l }
+{}
+
+/// The search tree of a problem under its least certain energy has no more nodes than that of each
+/// wider problem.
+pub fn narrower_problems_take_no_more_nodes()
+    ensures { (wide narrow : Problem) (b c : Option ℤ) → IsProblem narrow
+        → IsNarrower wide narrow → IsLeastCertain wide b → IsLeastCertain narrow c
+        → node_count narrow c ≤ node_count wide b }
+{
+    energies_have_greatest_values();
 }
