@@ -1,34 +1,25 @@
 -- what stays of a wider problem's ground list
-use Rattle.std.proofs.Common.{◌≡◌, ◌↔◌, ℤ, pos, List, subst, sym}
-use Rattle.std.specs.Prelude.{All, Contains}
+use Rattle.std.proofs.Common.{◌≡◌, ◌↔◌, pos, List}
+use Rattle.std.specs.Prelude.{Contains}
 use Rattle.std.proofs.lemmas.List.Elements.{All-contains, All-map, All-weaker}
 use Rattle.charge_model.specs.declared.charge.Charge.{Charge}
-use Rattle.charge_model.specs.Problem.{IsProblem, Problem, UnderSomeTable}
-use Rattle.charge_model.specs.Rules.{Beats, IsCertainlyValid, IsChargeList, IsPossiblyValid}
-use Rattle.charge_model.specs.GroundList.{IsCandidate, IsGroundList, IsListed}
+use Rattle.charge_model.specs.Problem.{Problem, UnderSomeTable}
+use Rattle.charge_model.specs.Rules.{Beats, IsCertainlyValid, IsPossiblyValid}
+use Rattle.charge_model.specs.GroundList.{IsCandidate, IsListed}
 use Rattle.window_model.specs.Windows.{BeatsBy, IsWithin}
-use Rattle.narrower_laws.specs.Narrower.{IsNarrower, Stays}
+use Rattle.narrower_laws.specs.Narrower.{Stays}
 use Rattle.candidate_marks.specs.declared.candidate.Candidate.{Candidate}
 use Rattle.candidate_marks.specs.Candidates.{AreContenders, IsWeighed, lists_of_candidates}
 use Rattle.narrower_lists.specs.Possible.{ArePossible}
 
--- a charge list of a wider problem is one of the narrower
-list_too : (wide narrow : Problem) (c : List Charge) → IsNarrower wide narrow → IsChargeList wide c → IsChargeList narrow c
-list_too wide narrow c is list =
-    let same = subst (λ (p : Problem). IsChargeList p c) (sym is.rest) list in
-    record { whole = same.whole; of_base = same.of_base }
-
-pub lists_too : (wide narrow : Problem) (l : List (List Charge)) → IsNarrower wide narrow → IsGroundList wide l → All (IsChargeList narrow) l
-lists_too wide narrow l is ground = All-weaker (IsListed wide) (IsChargeList narrow) (λ c listed. list_too wide narrow c is listed.is_list) l ground.only_listed
-
 -- what is known below
-pub record AreLaws (wide narrow : Problem) (l : List (List Charge)) : Type 0 where
+pub record AreLaws (narrow : Problem) (l : List (List Charge)) : Type 0 where
   pub has_table : UnderSomeTable narrow (λ t. t.scale ≡ 1)
   pub staying : (c : List Charge) → Stays narrow l c ↔ IsListed narrow c
   pub beats : (w c : List Charge) → BeatsBy narrow (pos 0) w c ↔ Beats narrow w c
   pub within : (c : List Charge) → IsWithin narrow (pos 0) c ↔ IsListed narrow c
 
-module _ (wide narrow : Problem) (l : List (List Charge)) (laws : AreLaws wide narrow l) (xs : List Candidate) (are : ArePossible narrow l xs) where
+module _ (narrow : Problem) (l : List (List Charge)) (laws : AreLaws narrow l) (xs : List Candidate) (are : ArePossible narrow l xs) where
   -- a possibly valid entry is kept
   kept : (c : List Charge) → Contains l c → IsPossiblyValid narrow c → Contains (lists_of_candidates xs) c
   kept c inside = All-contains (λ d. IsPossiblyValid narrow d → Contains (lists_of_candidates xs) d) l c are.each inside

@@ -12,7 +12,10 @@ use candidate_marks::{Candidate, ground_list_of};
 use certain_energy_laws::laws::least_certain_energies_exist;
 use charge_model::laws::problems_have_tables;
 use ground_entries::GroundList;
-use narrower_laws::laws::staying_lists_are_listed;
+use narrower_laws::laws::{
+    narrower_ground_lists_are_no_longer, narrower_problems_take_no_more_nodes,
+    staying_lists_are_listed,
+};
 use potential_problem::Problem;
 use sidb_units::Memory;
 use std::alloc::Global;
@@ -47,6 +50,8 @@ fn narrower_list(
     ensures { IfOk result (IsListedWithin problem.now whole.now.limit) }
 {
     least_certain_energies_exist();
+    narrower_ground_lists_are_no_longer();
+    narrower_problems_take_no_more_nodes();
     let _sites = problem.sites();
     let _list = whole.list();
     let contenders = contenders(alloc, whole, problem)?;

@@ -1,4 +1,4 @@
-use Rattle.std.proofs.Common.{◌≡◌, ℕ, ◌<◌, ◌≤ℤ◌}
+use Rattle.std.proofs.Common.{ℕ, ◌<◌, ◌≤ℤ◌}
 use Rattle.charge_model.specs.Problem.{hi_in, lo_in}
 use Rattle.narrower_lists.proofs.narrower.are_spans_within.Given as goal
 

@@ -1,11 +1,17 @@
-use Rattle.std.proofs.Common.{rules, ◌↔◌, pos, IfOk, IfSome, IsNone, ◌≡◌, ℕ, ◌+◌, ◌-◌, ◌*◌, ◌<◌, ◌≤◌, length, ◌/◌, ◌%◌, Bool, true, false, nat_eq, nat_lt, List, [], ◌∷◌, ◌++◌, slice_index_or, slice_set, bit_and, bit_or, Fits, w8, w32, w64, Bor, MutBor}
-use Rattle.candidate_marks.specs.Candidates.{AreContenders}
-use Rattle.candidate_marks.specs.Found.{IsFound}
-use Rattle.narrower_laws.specs.Narrower.{IsNarrower}
-use Rattle.ground_state.specs.Answer.{IsListedWithin}
-use Rattle.narrower_lists.specs.Listed.{IsWholeOf}
+use Rattle.charge_model.specs.GroundList.{lists_of}
+use Rattle.narrower_lists.proofs.TakingLemmas.{possible_contend}
 use Rattle.narrower_lists.proofs.taking.contenders.Goals as goal
 
--- src/taking.rt:23:1
 pub returns : goal.returns
-returns c = ?
+returns c =
+    let wide = c.args.whole.now.problem in
+    let narrow = c.args.problem.now in
+    let l = lists_of c.list-list.result.now in
+    let ground = c.list-list.ensures.listed.list.ground in
+    let valid = c.sites-sites.ensures.valid in
+    possible_contend narrow l (record {
+      has_table = c.problems_have_tables.ensures narrow valid;
+      staying = λ d. c.staying_lists_are_listed.ensures wide narrow l d valid c.requires ground;
+      beats = c.window_lists_at_zero_are_ground_lists.ensures.beats narrow;
+      within = c.window_lists_at_zero_are_ground_lists.ensures.within narrow;
+    }) c.in_ok-possible.possible.items c.in_ok-possible.ensures
