@@ -17,7 +17,7 @@ use std::alloc::Global;
 use window_model::window_of;
 
 /// All possibly valid lists: whatever the window, each that no list beats by it is among them, and
-/// each that so beats another.
+/// one that none of them so beats is beaten by no list.
 fn contenders(alloc: Global, problem: &Problem) -> Result<Vec<Candidate>, Memory>
     ensures { IfOk result (λ v. (window : ℤ) → AreContenders problem.now window v.items) }
 {

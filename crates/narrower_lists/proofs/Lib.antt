@@ -1,0 +1,4 @@
+pub mod PossibleLemmas
+pub mod TakingLemmas
+pub mod StandardFacts
+mod Refusals
