@@ -13,4 +13,4 @@ pub use cutting::{can_be_cut, parts_of, rectangles_of};
 pub use parameter_regions::Rectangle;
 pub use sides::Side;
 pub use tiles::Tile;
-pub use tiling::{Judge, Meaning, tiles_of};
+pub use tiling::{Judge, Judged, Meaning, tiles_of};
