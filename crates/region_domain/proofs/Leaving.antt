@@ -10,7 +10,8 @@ use Rattle.operational_domain.specs.Patterns.{IsShapedSolved, wanted_at}
 use Rattle.operational_domain.specs.Placed.{Placed}
 use Rattle.parameter_regions.specs.declared.rectangles.Rectangle.{Rectangle}
 use Rattle.parameter_regions.specs.Regions.{IsRegionProblemOf}
-use Rattle.region_domain.specs.Patterns.{IsSolvedOver, IsTileSolved}
+use Rattle.ground_state.specs.Answer.{IsListedWithin}
+use Rattle.region_domain.specs.Patterns.{IfPatternListed, IsSolvedOver, IsTileSolved}
 
 -- its sites are those of the layout
 pub region_sites : (layout : Arrangement) (r : Rectangle) (q : Problem) → IsRegionProblemOf layout r q → q.sites ≡ length layout.sites
@@ -35,3 +36,10 @@ tile_solved placed r k left problem wanted limit solved layout left_by same of_l
     by Budget h = h
     by ListTooLong h = h
     by Memory h = tt
+
+-- the list of a shaped answer was found within the limit
+pub listed_of : (left : Remaining) (problem : Problem) (wanted : Bool) (limit : ℕ) (solved : PatternSolved) → IsShapedSolved left problem wanted limit solved → IfPatternListed solved (IsListedWithin problem limit)
+listed_of left problem wanted limit (Answer a) is = is.listed
+listed_of left problem wanted limit Budget is = tt
+listed_of left problem wanted limit ListTooLong is = tt
+listed_of left problem wanted limit Memory is = tt

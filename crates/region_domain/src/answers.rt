@@ -1,28 +1,29 @@
-ghost use Rattle.std.specs.Prelude.{◌≡◌, ◌<◌, IfOk, IsErr};
-ghost use Rattle.gate_model.specs.Logic.{pattern_count};
+ghost use Rattle.std.specs.Prelude.{◌≡◌, ◌++◌, IfOk, IsErr, OnOk};
 ghost use Rattle.operational_domain.specs.Placed.{Placed};
 ghost use Rattle.parameter_regions.specs.declared.rectangles.Rectangle.{Rectangle as RectangleData};
-ghost use Rattle.region_domain.specs.Patterns.{IsTileSolved};
+ghost use Rattle.region_domain.specs.Patterns.{IsTileFound, problems_of};
 ghost use Rattle.region_domain.specs.Tiles.{IsTileAnswer, IsTileOutcome};
 
-use crate::patterns::solve_on;
+use crate::patterns::{PatternFound, found_on};
 use bdl_pairs::{CellAnswer, PatternVerdict};
-use operational_domain::{PatternSolved, PlacedGate};
+use narrower_lists::SolvedProblem;
+use operational_domain::PlacedGate;
 use parameter_regions::Rectangle;
+use region_tiles::Judged;
 use sidb_units::Memory;
 use std::thread::Threads;
 
 /// Why a pattern does not work, or None where it works.
-fn outcome(solved: PatternSolved, pattern: u64) -> Result<Option<CellAnswer>, Memory>
+fn outcome(found: &PatternFound, pattern: u64) -> Result<Option<CellAnswer>, Memory>
     ensures outcome { (placed : Placed) (r : RectangleData)
-        → IsTileSolved placed r pattern solved → IfOk result (IsTileOutcome placed r pattern) }
-    ensures memory { IsErr result → solved ≡ PatternSolved.Memory }
+        → IsTileFound placed r pattern found.now → IfOk result (IsTileOutcome placed r pattern) }
+    ensures memory { IsErr result → found.now ≡ PatternFound.Memory }
 {
-    match solved {
-        PatternSolved::Memory => Err(Memory),
-        PatternSolved::Budget => Ok(Some(CellAnswer::Budget(pattern))),
-        PatternSolved::ListTooLong => Ok(Some(CellAnswer::Long(pattern))),
-        PatternSolved::Answer(answer) => match answer.verdict {
+    match found {
+        PatternFound::Memory => Err(Memory),
+        PatternFound::Budget => Ok(Some(CellAnswer::Budget(pattern))),
+        PatternFound::ListTooLong => Ok(Some(CellAnswer::Long(pattern))),
+        PatternFound::Verdict(verdict, _) => match *verdict {
             PatternVerdict::Works => Ok(None),
             PatternVerdict::Fails => Ok(Some(CellAnswer::Fails(pattern))),
             PatternVerdict::Undecided => Ok(Some(CellAnswer::Undecided(pattern))),
@@ -30,21 +31,30 @@ fn outcome(solved: PatternSolved, pattern: u64) -> Result<Option<CellAnswer>, Me
     }
 }
 
-/// Why a pattern of a gate does not work on a rectangle, or None where it works.
-fn pattern_outcome<R: Threads + Sync>(
-    rt: &R,
-    placed: &PlacedGate,
-    rectangle: &Rectangle,
-    pattern: u64,
-) -> Result<Option<CellAnswer>, Memory>
-    requires { pattern < pattern_count placed.now.gate }
-    ensures { IfOk result (IsTileOutcome placed.now rectangle.now pattern) }
+/// Puts the solved problem of a pattern, if there is one, behind those of the patterns before.
+fn keep(kept: &mut Vec<SolvedProblem>, found: PatternFound) -> Result<(), Memory>
+    ensures { OnOk result (kept.new.items ≡ kept.old.items ++ problems_of found) }
 {
-    let solved = solve_on(rt, placed, rectangle, pattern);
-    outcome(solved, pattern)
+    match found {
+        PatternFound::Verdict(_, solved) => kept.push(solved)?,
+        PatternFound::Budget => {}
+        PatternFound::ListTooLong => {}
+        PatternFound::Memory => {}
+    }
+    Ok(())
 }
 
-/// What a gate does on a rectangle, by one worker.
+/// What is kept of a pattern on the whole, if something is.
+fn kept_of(whole: Option<&Vec<SolvedProblem>>, pattern: u64) -> Option<&SolvedProblem> {
+    match whole {
+        None => None,
+        Some(kept) => kept.as_slice().get(pattern as usize),
+    }
+}
+
+/// What a gate does on a rectangle, by one worker, with the solved problems of its first patterns:
+/// each that works, and the next where it has a list. Those of a rectangle that holds this one spare
+/// searches, and change no answer.
 ///
 /// **Errors**: want of memory alone; a search beyond the limit and a long list are answers.
 #[tactic(auto, using(crate::proofs::FirstReason::reason_answers, crate::proofs::FirstReason::one_more, crate::proofs::FirstReason::none_works_yet))]
@@ -52,14 +62,19 @@ pub fn tile_answer<R: Threads + Sync>(
     rt: &R,
     placed: &PlacedGate,
     rectangle: &Rectangle,
-) -> Result<CellAnswer, Memory>
-    ensures { IfOk result (IsTileAnswer placed.now rectangle.now) }
+    whole: Option<&Vec<SolvedProblem>>,
+) -> Result<Judged<Vec<SolvedProblem>>, Memory>
+    ensures { IfOk result (λ judged. IsTileAnswer placed.now rectangle.now judged.answer) }
 {
+    let mut kept = Vec::new(placed.alloc());
     for k in 0..placed.patterns() {
-        let found = pattern_outcome(rt, placed, rectangle, k)?;
-        if let Some(reason) = found {
-            return Ok(reason);
+        let found = found_on(rt, placed, rectangle, k, kept_of(whole, k));
+        let reason = outcome(&found, k)?;
+        keep(&mut kept, found)?;
+        if let Some(answer) = reason {
+            return Ok(Judged { answer, kept });
         }
     }
-    Ok(CellAnswer::Works)
+    let answer = CellAnswer::Works;
+    Ok(Judged { answer, kept })
 }

@@ -6,12 +6,13 @@ ghost use Rattle.region_domain.specs.Tiles.{IsTileAnswer};
 ghost use Rattle.region_domain.specs.Region.{AreRegionTiles, AreTilesOf};
 
 use crate::tile_answer;
-use bdl_pairs::{CellAnswer, Grid};
+use bdl_pairs::Grid;
 use model_params::Params;
+use narrower_lists::SolvedProblem;
 use operational_domain::PlacedGate;
 use parameter_regions::Rectangle;
 use rayon::prelude::*;
-use region_tiles::{Judge, Tile, rectangles_of, tiles_of};
+use region_tiles::{Judge, Judged, Tile, rectangles_of, tiles_of};
 use sidb_units::Memory;
 use std::alloc::Global;
 use std::marker::Model;
@@ -25,12 +26,18 @@ struct GateJudge<'a, R> {
 }
 
 impl<'a, R: Threads + Sync> Judge for GateJudge<'a, R> {
+    type Kept = Vec<SolvedProblem>;
+
     ghost can_judge = { λ judge. IsSync R.row };
 
     ghost says = { λ judge r answer. IsTileAnswer judge.placed.now r answer };
 
-    fn judge(&self, rectangle: &Rectangle) -> Result<CellAnswer, Memory> {
-        tile_answer(self.rt, self.placed, rectangle)
+    fn judge(
+        &self,
+        rectangle: &Rectangle,
+        whole: Option<&Vec<SolvedProblem>>,
+    ) -> Result<Judged<Vec<SolvedProblem>>, Memory> {
+        tile_answer(self.rt, self.placed, rectangle, whole)
     }
 }
 
