@@ -51,7 +51,7 @@ pub struct Checker<'a> {
     window: Window,
     list: &'a GroundList,
     facts: Vec<EntryFacts>,
-    track: Track,
+    track: Track<'a>,
     whole: bool,
     passed: u64,
     refused: Option<Refused>,

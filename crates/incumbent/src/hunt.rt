@@ -6,17 +6,17 @@ ghost use Rattle.incumbent.specs.Hunting.{IsHunt};
 
 use charge_state::Charge;
 use leaf_rules::{greatest_energy, is_certain};
-use search_guesses::Guess;
 use potential_problem::Problem;
 use prefix_bound::Track;
+use search_guesses::Guess;
 use sidb_units::Memory;
 use std::alloc::Global;
 
 /// The best list so far, with the greatest energy of a certainly valid list once there is one, in
 /// 10^-12 V at scale 1, and a track on which lists are tested.
 #[derive(Drop)]
-pub struct Hunt {
-    pub track: Track,
+pub struct Hunt<'a> {
+    pub track: Track<'a>,
     pub best: Guess,
     pub energy: Option<i64>,
 }

@@ -4,9 +4,9 @@ ghost use Rattle.incumbent.specs.Hunting.{IsHunt};
 
 use crate::hunt::{Hunt, offer};
 use charge_model::MAX_SITES;
-use search_guesses::{Couplings, Guess, couplings_of, settle, wide_guesses};
 use potential_problem::Problem;
 use prefix_bound::Track;
+use search_guesses::{Couplings, Guess, couplings_of, settle, wide_guesses};
 use sidb_units::Memory;
 use std::alloc::Global;
 

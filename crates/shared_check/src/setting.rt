@@ -8,7 +8,6 @@ ghost use Rattle.tree_leaves.specs.Subtree.{IsPrefix};
 ghost use Rattle.written_tokens.specs.Guiding.{IsTokenAt};
 ghost use Rattle.shared_check.specs.Parts.{IsGuideOf};
 
-use crate::task::track_to;
 use charge_state::Charges;
 use entry_facts::{EntryFacts, all_facts};
 use entry_tests::first_refused;
@@ -20,6 +19,7 @@ use std::alloc::Global;
 use std::marker::Model;
 use token_sinks::{Stop, Token};
 use token_tests::first_failing;
+use tree_leaves::track_of;
 use window_model::Window;
 use written_tokens::Guide;
 
@@ -120,7 +120,7 @@ impl<'a> Setting<'a> {
         ensures only { IfOk result (λ token. (other : TokenData)
             → IsTokenAt self.now prefix.now other → other ≡ token) }
     {
-        let track = track_to(self.alloc, self.guide.problem(), prefix)?;
+        let track = track_of(self.alloc, self.guide.problem(), prefix)?;
         let token = self.guide.next_token(&track)?;
         let passed = self.passes(&track, token)?;
         if passed { Ok(token) } else { Err(Stop::Fault) }

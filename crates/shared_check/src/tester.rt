@@ -3,7 +3,6 @@ ghost use Rattle.tree_leaves.specs.Subtree.{IsPrefix};
 ghost use Rattle.shared_check.specs.TesterSeen.{faults_of};
 
 use crate::setting::Setting;
-use crate::task::track_to;
 use certificate_check::advance;
 use charge_state::{Charges, cmp_charges};
 use prefix_bound::Track;
@@ -11,13 +10,14 @@ use sidb_units::Memory;
 use std::cmp::Ordering;
 use std::marker::Model;
 use token_sinks::{Stop, Token, TokenSink};
+use tree_leaves::track_of;
 
 /// Tests each token at the place where it has to stand, from a prefix on, and keeps of them where
 /// the next one stands, and the first one that it refused.
 #[derive(Drop)]
 pub struct Tester<'s, 'a> {
     setting: &'s Setting<'a>,
-    track: Track,
+    track: Track<'s>,
     whole: bool,
     refused: Option<Token>,
 }
@@ -41,7 +41,7 @@ impl<'s, 'a> Tester<'s, 'a> {
         requires { IsPrefix setting.now.problem prefix.now }
         ensures { IfOk result (λ t. t ≡ None) }
     {
-        let track = track_to(setting.alloc(), setting.problem(), prefix)?;
+        let track = track_of(setting.alloc(), setting.problem(), prefix)?;
         Ok(Tester {
             setting,
             track,

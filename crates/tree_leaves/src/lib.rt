@@ -6,4 +6,4 @@ mod leaf_list;
 mod listing;
 
 pub use leaf_list::{LeafList, LeavesAnswer};
-pub use listing::{leaves, leaves_under};
+pub use listing::{leaves, leaves_under, track_of};

@@ -140,7 +140,11 @@ fn visit(
 }
 
 /// The track of a prefix.
-fn track_of(alloc: Global, problem: &Problem, prefix: &Charges) -> Result<Track, Memory>
+pub fn track_of<'a>(
+    alloc: Global,
+    problem: &'a Problem,
+    prefix: &Charges,
+) -> Result<Track<'a>, Memory>
     requires { IsPrefix problem.now prefix.now }
     ensures problem { IfOk result (λ track. track.problem ≡ problem.now) }
     ensures prefix { IfOk result (λ track. track.prefix ≡ prefix.now) }
