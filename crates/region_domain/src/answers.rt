@@ -57,7 +57,7 @@ fn kept_of(whole: Option<&Vec<SolvedProblem>>, pattern: u64) -> Option<&SolvedPr
 /// searches, and change no answer.
 ///
 /// **Errors**: want of memory alone; a search beyond the limit and a long list are answers.
-#[tactic(auto, using(crate::proofs::FirstReason::reason_answers, crate::proofs::FirstReason::one_more, crate::proofs::FirstReason::none_works_yet))]
+#[tactic(auto, using(crate::proofs::FirstReason::none_works_yet))]
 pub fn tile_answer<R: Threads + Sync>(
     rt: &R,
     placed: &PlacedGate,
@@ -71,8 +71,9 @@ pub fn tile_answer<R: Threads + Sync>(
         let found = found_on(rt, placed, rectangle, k, kept_of(whole, k));
         let reason = outcome(&found, k)?;
         keep(&mut kept, found)?;
-        if let Some(answer) = reason {
-            return Ok(Judged { answer, kept });
+        match reason {
+            Some(answer) => return Ok(Judged { answer, kept }),
+            None => {}
         }
     }
     let answer = CellAnswer::Works;
