@@ -59,7 +59,8 @@ pub fn solved_by(
     requires outputs { All (IsPairOn shaped.now.layout.sites) shaped.now.outputs }
     requires sites { problem.now.sites ≡ length shaped.now.layout.sites }
     requires solved { IsSolved problem.now limit answer }
-    ensures { IsShapedSolved shaped.now problem.now wanted limit result }
+    ensures solved { IsShapedSolved shaped.now problem.now wanted limit result }
+    ensures memory { result ≡ PatternSolved.Memory → answer ≡ SolveAnswer.Memory }
 {
     match answer {
         SolveAnswer::List(solved) => {
